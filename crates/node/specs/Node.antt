@@ -1,0 +1,60 @@
+-- What a node's record says of itself (paged.rs 18 to 99 and 534 to 544).
+use Prim.Native.Nat.{ℕ, _+_}
+use mathlib.Core.Bool.{Bool, _&&_, _||_}
+use lib.Dec.{eqb, leb, ltb}
+use Rattle.logic.specs.Pick.{pick}
+use Rattle.entry.specs.declared.PageStateTag.{PageStateTag}
+use Rattle.entry.specs.declared.PageStateTag.the-variants.{Owned, LeftSplit, RightSplit}
+use Rattle.node.specs.declared.Node.{Node}
+use Rattle.node.specs.declared.Side.{Side}
+
+-- a record by its ten words, in the order of the table
+abbrev pub nodeBy : ℕ → ℕ → ℕ → ℕ → ℕ → ℕ → ℕ → ℕ → ℕ → ℕ → Node
+nodeBy k p l r s e z o c n =
+    record {
+      kind = k;
+      parent = p;
+      left = l;
+      right = r;
+      «parent_offset» = s;
+      «parent_limit» = e;
+      size = z;
+      owner = o;
+      «cache_policy» = c;
+      «pin_count» = n;
+    }
+
+abbrev pub freeNode : Node
+freeNode = nodeBy 0 0 0 0 0 0 0 0 0 0
+
+-- new, 163: an origin of so many pages
+abbrev pub originNode : ℕ → ℕ → Node
+originNode pages owner = nodeBy 1 0 0 0 0 0 pages owner 0 0
+
+-- is_hidden, 55
+abbrev pub hiddenOf : Node → Bool
+hiddenOf n = eqb (n .kind) 3
+
+-- a live leaf
+abbrev pub leafOf : Node → Bool
+leafOf n = eqb (n .kind) 1 || eqb (n .kind) 2
+
+-- the parent's page lies in the window, 608
+abbrev pub windowOf : Node → ℕ → Bool
+windowOf n page = leb (n .«parent_offset») page && ltb page (n .«parent_limit»)
+
+-- out_of_range, 540
+unfoldable pub outOf : Node → ℕ → Bool
+outOf n page =
+    pick (hiddenOf n || eqb (n .parent) 0)
+    (leb (n .size) page)
+    (leb (n .«parent_limit») (n .«parent_offset» + page))
+
+abbrev pub sideBy : PageStateTag → ℕ → Side
+sideBy t o = record { tag = t; other = o }
+
+-- get_tag_and_other, 40
+unfoldable pub sideOf : Node → ℕ → Side
+sideOf n child =
+    pick (hiddenOf n && eqb (n .left) (child + 1)) (sideBy LeftSplit (n .right))
+    (pick (hiddenOf n && eqb (n .right) (child + 1)) (sideBy RightSplit (n .left)) (sideBy Owned 0))
