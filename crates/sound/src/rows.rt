@@ -1,0 +1,145 @@
+// Page entries, row by row: each by itself, the pins of a row, and how often each frame stands.
+use node::Node;
+ghost use mathlib.Core.Path.{_≡_};
+ghost use Prim.Native.Nat.{_≤_, _<_};
+ghost use lib.ListN.{length};
+ghost use Rattle.sound.specs.Rows.{entryOk, rowOk, rowPins, rowCount, rowTest, moreOf, markEntry, markRun, markRows, rowsOk, framesOk, oneIf};
+ghost use Rattle.tables.specs.Tables.{entryOf, nodeOf};
+
+fn entry_ok(e: u32, page: u32, hidden: bool, size: u32, frames: usize) -> bool
+    ensures { λ r. ⌜ r ≡ entryOk hidden size frames page e ⌝ }
+{
+    let low = e % 4096;
+    let split = hidden & (e < 12288);
+    let owned = !hidden & (e < 524288) & (e / 4096 % 4 == 0);
+    (e == 0) | ((1 <= low) & (low as usize <= frames) & (page < size) & (split | owned))
+}
+
+fn row_ok(pages: &[u32], node: u32, n: Node, frames: usize) -> bool
+    requires { ⌜ (length (now pages) ≡ 4096) × (node < 64) ⌝ }
+    ensures { λ r. ⌜ r ≡ rowOk n frames (now (pages .entry)) node ⌝ }
+{
+    let a = node as usize * 64;
+    let hidden = n.kind == Node::HIDDEN;
+    let size = n.size;
+    let mut ok = true;
+    let mut i: u32 = 0;
+    while i < 64 {
+        ok = ok & entry_ok(pages[a + i as usize], i, hidden, size, frames);
+        i += 1;
+    }
+    ok
+}
+
+fn row_pins(pages: &[u32], node: u32) -> u32
+    requires { ⌜ (length (now pages) ≡ 4096) × (node < 64) ⌝ }
+    ensures { λ r. ⌜ r ≡ rowPins (now (pages .entry)) node ⌝ }
+{
+    let a = node as usize * 64;
+    let mut sum: u32 = 0;
+    let mut i = 0;
+    while i < 64 {
+        let e = pages[a + i];
+        sum += e / 16384;
+        i += 1;
+    }
+    sum
+}
+
+fn present(e: u32) -> u32
+    ensures { λ r. ⌜ r ≡ oneIf e ⌝ }
+{
+    if e == 0 {
+        return 0;
+    }
+    1
+}
+
+fn row_count(pages: &[u32], node: u32) -> u32
+    requires { ⌜ (length (now pages) ≡ 4096) × (node < 64) ⌝ }
+    ensures { λ r. ⌜ r ≡ rowCount (now (pages .entry)) node ⌝ }
+{
+    let a = node as usize * 64;
+    let mut sum: u32 = 0;
+    let mut i = 0;
+    while i < 64 {
+        sum += present(pages[a + i]);
+        i += 1;
+    }
+    sum
+}
+
+// One standing more; two stands for more than one.
+fn more(mark: u8) -> u8
+    ensures { λ r. ⌜ r ≡ moreOf mark ⌝ }
+{
+    if mark == 0 {
+        return 1;
+    }
+    2
+}
+
+pub fn mark_entry(marks: &mut [u8], e: u32)
+    ensures { λ _. ⌜ now (marks .exit) ≡ markEntry (now (marks .entry)) e ⌝ }
+{
+    let low = (e % 4096) as usize;
+    if e == 0 {
+        return;
+    }
+    if low < marks.len() {
+        let mark = marks[low];
+        marks[low] = more(mark);
+    }
+}
+
+fn mark_row(pages: &[u32], node: u32, marks: &mut [u8])
+    requires { ⌜ (length (now pages) ≡ 4096) × (node < 64) ⌝ }
+    ensures { λ _. ⌜ now (marks .exit) ≡ markRun (entryOf (now (pages .entry)) node) 64 (now (marks .entry)) ⌝ }
+{
+    let a = node as usize * 64;
+    let mut i = 0;
+    while i < 64 {
+        mark_entry(marks, pages[a + i]);
+        i += 1;
+    }
+}
+
+// A row without entries needs no look at each.
+fn row_test(nodes: &[u32], pages: &[u32], node: u32, frames: usize, marks: &mut [u8]) -> bool
+    requires { ⌜ (length (now pages) ≡ 4096) × (node < 64) ⌝ }
+    ensures { λ r. ⌜ (r ≡ rowTest (now (nodes .entry)) (now (pages .entry)) frames node) × (now (marks .exit) ≡ markRun (entryOf (now (pages .entry)) node) 64 (now (marks .entry))) ⌝ }
+{
+    if row_count(pages, node) == 0 {
+        return true;
+    }
+    mark_row(pages, node, marks);
+    let n = tables::node_at(nodes, node);
+    row_ok(pages, node, n, frames) & (row_pins(pages, node) <= n.pin_count)
+}
+
+pub fn rows_ok(nodes: &[u32], pages: &[u32], frames: usize, marks: &mut [u8]) -> bool
+    requires { ⌜ length (now pages) ≡ 4096 ⌝ }
+    ensures { λ r. ⌜ (r ≡ rowsOk (now (nodes .entry)) (now (pages .entry)) frames) × (now (marks .exit) ≡ markRows (now (pages .entry)) 64 (now (marks .entry))) ⌝ }
+{
+    let mut ok = true;
+    let mut i = 0;
+    while i < 64 {
+        ok = ok & row_test(nodes, pages, i, frames, marks);
+        i += 1;
+    }
+    ok
+}
+
+// Each frame is in use exactly if it stands, and stands at most once.
+pub fn frames_ok(used: &[u8], marks: &[u8]) -> bool
+    requires { ⌜ length (now used) < length (now marks) ⌝ }
+    ensures { λ r. ⌜ r ≡ framesOk (now (used .entry)) (now (marks .entry)) ⌝ }
+{
+    let mut ok = true;
+    let mut i = 0;
+    while i < used.len() {
+        ok = ok & (used[i] == marks[i + 1]) & (used[i] <= 1);
+        i += 1;
+    }
+    ok
+}

@@ -1,0 +1,145 @@
+// Node records: each by itself, its links both ways, the ends of the parent chains and the sum of the window starts.
+use node::Node;
+ghost use mathlib.Core.Path.{_≡_};
+ghost use Prim.Native.Nat.{_≤_};
+ghost use Rattle.logic.specs.Below.{allBelow};
+ghost use Rattle.sound.specs.Tree.{numbersOk, linkedOf, linksOk, nodeOk, nodesOk, linksTo, stepTo, noneAt, chainsEnd, startsSum, startsOk};
+
+// The numbers of one record.
+fn numbers_ok(n: Node, next: u32) -> bool
+    ensures { λ r. ⌜ r ≡ numbersOk n next ⌝ }
+{
+    let live = n.kind != Node::FREE;
+    let blank = (n.parent == 0)
+        & (n.left == 0)
+        & (n.right == 0)
+        & (n.parent_offset == 0)
+        & (n.parent_limit == 0)
+        & (n.size == 0)
+        & (n.owner == 0)
+        & (n.cache_policy == 0)
+        & (n.pin_count == 0);
+    (n.kind <= 3)
+        & (live | blank)
+        & (n.parent_offset <= n.parent_limit)
+        & (n.parent_limit as u64 <= n.parent_offset as u64 + n.size as u64)
+        & (n.size <= 64)
+        & (n.owner < next)
+        & (n.cache_policy <= 3)
+}
+
+// A word of the node that a link names; 0 for no node.
+fn linked(nodes: &[u32], link: u32, k: u32) -> u32
+    ensures { λ r. ⌜ r ≡ linkedOf (now (nodes .entry)) link k ⌝ }
+{
+    if link == Node::NONE {
+        return 0;
+    }
+    tables::word_at(nodes, link - 1, k)
+}
+
+// A hidden node's two children name it, another node has none, and a parent is hidden and names the node.
+fn links_ok(nodes: &[u32], node: u32, n: Node) -> bool
+    ensures { λ r. ⌜ r ≡ linksOk (now (nodes .entry)) node n ⌝ }
+{
+    let me = node as u64 + 1;
+    let childless = (n.left == 0) & (n.right == 0);
+    let named = (linked(nodes, n.left, 1) as u64 == me)
+        & (linked(nodes, n.right, 1) as u64 == me)
+        & (n.left != n.right);
+    let below = (linked(nodes, n.parent, 0) == Node::HIDDEN)
+        & ((linked(nodes, n.parent, 2) as u64 == me) | (linked(nodes, n.parent, 3) as u64 == me));
+    let hidden = n.kind == Node::HIDDEN;
+    ((hidden & named) | ((n.kind != Node::HIDDEN) & childless)) & ((n.parent == 0) | below)
+}
+
+fn node_ok(nodes: &[u32], node: u32, next: u32) -> bool
+    ensures { λ r. ⌜ r ≡ nodeOk (now (nodes .entry)) next node ⌝ }
+{
+    let n = tables::node_at(nodes, node);
+    numbers_ok(n, next) & links_ok(nodes, node, n)
+}
+
+pub fn nodes_ok(nodes: &[u32], next: u32) -> bool
+    ensures { λ r. ⌜ r ≡ nodesOk (now (nodes .entry)) next ⌝ }
+{
+    let mut ok = true;
+    let mut i = 0;
+    while i < 64 {
+        ok = ok & node_ok(nodes, i, next);
+        i += 1;
+    }
+    ok
+}
+
+// Place l holds the link to the parent of the node that link l names, so that a link is an index.
+fn parents(nodes: &[u32]) -> [u32; 65]
+    ensures { λ r. ⌜ r ≡ linksTo (now (nodes .entry)) 64 ⌝ }
+{
+    let mut up = [0u32; 65];
+    let mut i: u32 = 0;
+    while i < 64 {
+        let link = tables::word_at(nodes, i, 1);
+        up[i as usize + 1] = link;
+        i += 1;
+    }
+    up
+}
+
+// From the 2^r-th parents to the 2^(r+1)-th.
+fn step_up(up: [u32; 65]) -> [u32; 65]
+    ensures { λ r. ⌜ r ≡ stepTo up 65 ⌝ }
+{
+    let mut out = [0u32; 65];
+    let mut i = 0;
+    while i < 65 {
+        let link = up[i];
+        out[i] = tables::at(&up, link as usize);
+        i += 1;
+    }
+    out
+}
+
+fn none_left(up: [u32; 65]) -> bool
+    ensures { λ r. ⌜ r ≡ allBelow (noneAt up) 65 ⌝ }
+{
+    let mut ok = true;
+    let mut i = 0;
+    while i < 65 {
+        ok = ok & (up[i] == 0);
+        i += 1;
+    }
+    ok
+}
+
+// No node has a 64th parent.
+pub fn chains_end(nodes: &[u32]) -> bool
+    ensures { λ r. ⌜ r ≡ chainsEnd (now (nodes .entry)) ⌝ }
+{
+    let mut up = parents(nodes);
+    let mut r = 0;
+    while r < 6 {
+        up = step_up(up);
+        r += 1;
+    }
+    none_left(up)
+}
+
+fn starts(nodes: &[u32]) -> u64
+    ensures { λ r. ⌜ r ≡ startsSum (now (nodes .entry)) ⌝ }
+{
+    let mut sum: u64 = 0;
+    let mut i = 0;
+    while i < 64 {
+        let start = tables::word_at(nodes, i, 4);
+        sum += start as u64;
+        i += 1;
+    }
+    sum
+}
+
+pub fn starts_ok(nodes: &[u32], next: u32) -> bool
+    ensures { λ r. ⌜ r ≡ startsOk (now (nodes .entry)) next ⌝ }
+{
+    starts(nodes) + 64 <= 64 * (next as u64)
+}
