@@ -38,9 +38,9 @@ pub record Names (N : List ℕ) (h link : ℕ) : Type 0 where
   pub parent : nodeOf N node .parent ≡ h + 1
 
 -- the parent chain of a link ends: it is none, or its node's parent's chain ends
-data Ends (N : List ℕ) : ℕ → Type 0 where
-  none : Ends N 0
-  up : (n : ℕ) → Ends N (nodeOf N n .parent) → Ends N (n + 1)
+pub data Ends (N : List ℕ) : ℕ → Type 0 where
+  none : {link : ℕ} → link ≡ 0 → Ends N link
+  up : {link : ℕ} (n : ℕ) → link ≡ n + 1 → Ends N (nodeOf N n .parent) → Ends N link
 
 pub record Tree (N : List ℕ) (next : ℕ) : Type 0 where
   -- each hidden node has two distinct live children that name it as parent; a leaf has none

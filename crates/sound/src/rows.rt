@@ -48,6 +48,7 @@ fn row_pins(pages: &[u32], node: u32) -> u32
 
 fn present(e: u32) -> u32
     ensures { λ r. ⌜ r ≡ oneIf e ⌝ }
+    ensures small { λ r. ⌜ r ≤ 1 ⌝ }
 {
     if e == 0 {
         return 0;

@@ -116,17 +116,18 @@ fn none_left(up: [u32; 65]) -> bool
 pub fn chains_end(nodes: &[u32]) -> bool
     ensures { λ r. ⌜ r ≡ chainsEnd (now (nodes .entry)) ⌝ }
 {
-    let mut up = parents(nodes);
-    let mut r = 0;
-    while r < 6 {
-        up = step_up(up);
-        r += 1;
-    }
-    none_left(up)
+    let up1 = parents(nodes);
+    let up2 = step_up(up1);
+    let up4 = step_up(up2);
+    let up8 = step_up(up4);
+    let up16 = step_up(up8);
+    let up32 = step_up(up16);
+    none_left(step_up(up32))
 }
 
 fn starts(nodes: &[u32]) -> u64
     ensures { λ r. ⌜ r ≡ startsSum (now (nodes .entry)) ⌝ }
+    ensures small { λ r. ⌜ r ≤ 274877906880 ⌝ }
 {
     let mut sum: u64 = 0;
     let mut i = 0;

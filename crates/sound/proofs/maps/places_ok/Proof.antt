@@ -1,41 +1,33 @@
+use mathlib.Core.Path.{_≡_, refl}
+use Prim.Native.Nat.{_≤_, _-_}
+use native.Mathlib.Omega.{arith}
+use Rattle.logic.specs.Below.{allBelow}
+use Rattle.logic.proofs.Laws.{all-next}
+use Rattle.sound.specs.Maps.{placeOk, placesOk}
 use borrow.Author.Needs.{needs}
 use Rattle.sound.proofs.maps.places_ok.Statement.{statement}
 use Rattle.sound.proofs.maps.places_ok.Tie as tie
-use Rattle.sound.proofs.maps.places_ok.Reads as reads
-use Rattle.sound.proofs.maps.places_ok.Lts as lts
-use Rattle.sound.proofs.maps.place_ok.Reads as place-ok-reads
 
 abbrev Inv-loop : tie.InvT-loop
-Inv-loop nodes mappings ok₀ i₀ ok i = ?
+Inv-loop nodes mappings ok₀ i₀ ok i = (i ≤ 64) × (ok ≡ allBelow (placeOk nodes mappings) i)
 
 abbrev μ-loop : tie.MeasureT-loop
-μ-loop nodes mappings ok₀ i₀ ok i = ?
+μ-loop nodes mappings ok₀ i₀ ok i = 64 - i
 
--- src/maps.rt:52:5
 loop-holds : tie.Need-loop-holds Inv-loop μ-loop
-loop-holds c = search needs
+unfolding allBelow
+loop-holds c = (search needs, refl)
 
--- src/maps.rt:53:19
-place-ok-requires : tie.Need-place-ok-requires Inv-loop μ-loop
-place-ok-requires c κs = search needs
-
--- src/maps.rt:54:9
-add-i : tie.Need-add-i Inv-loop μ-loop
-add-i c = search needs
-
--- src/maps.rt:52:5
-loop-less : tie.Need-loop-less Inv-loop μ-loop
-loop-less c = search needs
-
--- src/maps.rt:52:5
 loop-again : tie.Need-loop-again Inv-loop μ-loop
-loop-again c = search needs
+loop-again c = (search needs, all-next _ _ (c .before .before .loop .inv .1) (c .place-ok .ensures))
 
--- src/maps.rt:47:1
 returns : tie.Need-returns Inv-loop μ-loop
-returns c = search needs
+unfolding placesOk
+returns c =
+    let h : c .before .loop .i ≡ 64 = omega arith in
+    rw h at (c .before .loop .inv .1)
 
 pub places-ok-spec : {M : Type 1} → statement M
 places-ok-spec =
     tie.close
-    (tie.spec Inv-loop μ-loop loop-holds place-ok-requires add-i loop-less loop-again returns)
+    (tie.spec Inv-loop μ-loop loop-holds (λ c κs. search needs) (λ c. search needs) (λ c. search needs) loop-again returns)

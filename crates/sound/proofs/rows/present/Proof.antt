@@ -1,15 +1,13 @@
+use borrow.Author.Needs.{needs}
+use borrow.Author.Tests.{eq-eqb, ne-eqb}
 use Rattle.sound.proofs.rows.present.Statement.{statement}
 use Rattle.sound.proofs.rows.present.Tie as tie
-use Rattle.sound.proofs.rows.present.Reads as reads
-use Rattle.sound.proofs.rows.present.Lts as lts
 
--- src/rows.rt:53:9
 returns : tie.Need-returns
-returns c = ?
+returns c = (simp (eq-eqb _ _ (c .if1 .taken)), search needs)
 
--- src/rows.rt:49:1
 returns-2 : tie.Need-returns-2
-returns-2 c = ?
+returns-2 c = (simp (ne-eqb _ _ (c .if1 .left)), search needs)
 
 pub present-spec : {M : Type 1} → statement M
 present-spec = tie.close (tie.spec returns returns-2)

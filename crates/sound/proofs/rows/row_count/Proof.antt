@@ -1,59 +1,33 @@
+use mathlib.Core.Path.{_≡_, refl, ap, _∙_}
+use Prim.Native.Nat.{ℕ, _≤_, _-_, _*_}
+use native.Mathlib.Omega.{arith}
+use Rattle.logic.specs.Below.{sumBelow}
+use Rattle.logic.proofs.Laws.{sum-next}
+use Rattle.sound.specs.Rows.{rowCount, presentAt, oneIf}
+use Rattle.sound.proofs.Laws.{entry-in}
 use borrow.Author.Needs.{needs}
 use Rattle.sound.proofs.rows.row_count.Statement.{statement}
 use Rattle.sound.proofs.rows.row_count.Tie as tie
-use Rattle.sound.proofs.rows.row_count.Reads as reads
-use Rattle.sound.proofs.rows.row_count.Lts as lts
-use Rattle.sound.proofs.rows.present.Reads as present-reads
 
 abbrev Inv-loop : tie.InvT-loop
-Inv-loop pages node a sum₀ i₀ sum i = ?
+Inv-loop pages node a sum₀ i₀ sum i = (i ≤ 64) × (sum ≤ i) × (sum ≡ sumBelow (presentAt pages node) i)
 
 abbrev μ-loop : tie.MeasureT-loop
-μ-loop pages node a sum₀ i₀ sum i = ?
+μ-loop pages node a sum₀ i₀ sum i = 64 - i
 
--- src/rows.rt:62:13
-mul-a : tie.Need-mul-a Inv-loop μ-loop
-mul-a c = search needs
-
--- src/rows.rt:65:5
 loop-holds : tie.Need-loop-holds Inv-loop μ-loop
-loop-holds c = search needs
+unfolding sumBelow
+loop-holds c = (search needs, search needs, refl)
 
--- src/rows.rt:66:30
-add-present : tie.Need-add-present Inv-loop μ-loop
-add-present c = search needs
-
--- src/rows.rt:66:24
-mul-present : tie.Need-mul-present Inv-loop μ-loop
-mul-present c = search needs
-
--- src/rows.rt:66:24
-shared-slice-read-present : tie.Need-shared-slice-read-present Inv-loop μ-loop
-shared-slice-read-present c = search needs
-
--- src/rows.rt:66:16
-present-requires : tie.Need-present-requires Inv-loop μ-loop
-present-requires c κs = search needs
-
--- src/rows.rt:66:9
-add-sum : tie.Need-add-sum Inv-loop μ-loop
-add-sum c = search needs
-
--- src/rows.rt:67:9
-add-i : tie.Need-add-i Inv-loop μ-loop
-add-i c = search needs
-
--- src/rows.rt:65:5
-loop-less : tie.Need-loop-less Inv-loop μ-loop
-loop-less c = search needs
-
--- src/rows.rt:65:5
 loop-again : tie.Need-loop-again Inv-loop μ-loop
-loop-again c = search needs
+unfolding presentAt
+loop-again c = (search needs, search needs, sum-next _ _ (c .before .before .before .loop .inv .2) (c .present .ensures .0 ∙ ap oneIf (entry-in (c .before .before .before .before .before .args .pages .now) (c .before .before .before .before .before .args .node) (c .before .before .before .loop .i) (c .before .before .loop-test .taken))))
 
--- src/rows.rt:58:1
 returns : tie.Need-returns Inv-loop μ-loop
-returns c = search needs
+unfolding rowCount
+returns c =
+    let h : c .before .loop .i ≡ 64 = omega arith in
+    rw h at (c .before .loop .inv .2)
 
 pub row-count-spec : {M : Type 1} → statement M
 row-count-spec =
@@ -61,14 +35,14 @@ row-count-spec =
     (tie.spec
     Inv-loop
     μ-loop
-    mul-a
+    (λ c. search needs)
     loop-holds
-    add-present
-    mul-present
-    shared-slice-read-present
-    present-requires
-    add-sum
-    add-i
-    loop-less
+    (λ c. search needs)
+    (λ c. search needs)
+    (λ c. search needs)
+    (λ c κs. search needs)
+    (λ c. search needs)
+    (λ c. search needs)
+    (λ c. search needs)
     loop-again
     returns)

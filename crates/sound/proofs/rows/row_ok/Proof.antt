@@ -1,59 +1,33 @@
+use mathlib.Core.Path.{_≡_, refl, sym, _∙_}
+use Prim.Native.Nat.{_≤_, _-_, _*_}
+use native.Mathlib.Omega.{arith}
+use Rattle.logic.specs.Below.{allBelow}
+use Rattle.logic.proofs.Laws.{all-next}
+use Rattle.tables.specs.Tables.{entryOf}
+use Rattle.sound.specs.Rows.{entryOk, rowOk, entryOkAt}
+use Rattle.sound.proofs.Laws.{entry-in}
 use borrow.Author.Needs.{needs}
 use Rattle.sound.proofs.rows.row_ok.Statement.{statement}
 use Rattle.sound.proofs.rows.row_ok.Tie as tie
-use Rattle.sound.proofs.rows.row_ok.Reads as reads
-use Rattle.sound.proofs.rows.row_ok.Lts as lts
-use Rattle.sound.proofs.rows.entry_ok.Reads as entry-ok-reads
 
 abbrev Inv-loop : tie.InvT-loop
-Inv-loop pages node frames a hidden size ok₀ i₀ ok i = ?
+Inv-loop pages node frames a hidden size ok₀ i₀ ok i = (i ≤ 64) × (ok ≡ allBelow (λ j. entryOk hidden size frames j (entryOf pages node j)) i)
 
 abbrev μ-loop : tie.MeasureT-loop
-μ-loop pages node frames a hidden size ok₀ i₀ ok i = ?
+μ-loop pages node frames a hidden size ok₀ i₀ ok i = 64 - i
 
--- src/rows.rt:22:13
-mul-a : tie.Need-mul-a Inv-loop μ-loop
-mul-a c = search needs
-
--- src/rows.rt:27:5
 loop-holds : tie.Need-loop-holds Inv-loop μ-loop
-loop-holds c = search needs
+unfolding allBelow
+loop-holds c = (search needs, refl)
 
--- src/rows.rt:28:38
-cast-entry-ok : tie.Need-cast-entry-ok Inv-loop μ-loop
-cast-entry-ok c = search needs
-
--- src/rows.rt:28:34
-add-entry-ok : tie.Need-add-entry-ok Inv-loop μ-loop
-add-entry-ok c = search needs
-
--- src/rows.rt:28:28
-mul-entry-ok : tie.Need-mul-entry-ok Inv-loop μ-loop
-mul-entry-ok c = search needs
-
--- src/rows.rt:28:28
-shared-slice-read-entry-ok : tie.Need-shared-slice-read-entry-ok Inv-loop μ-loop
-shared-slice-read-entry-ok c = search needs
-
--- src/rows.rt:28:19
-entry-ok-requires : tie.Need-entry-ok-requires Inv-loop μ-loop
-entry-ok-requires c κs = search needs
-
--- src/rows.rt:29:9
-add-i : tie.Need-add-i Inv-loop μ-loop
-add-i c = search needs
-
--- src/rows.rt:27:5
-loop-less : tie.Need-loop-less Inv-loop μ-loop
-loop-less c = search needs
-
--- src/rows.rt:27:5
 loop-again : tie.Need-loop-again Inv-loop μ-loop
-loop-again c = search needs
+loop-again c = (search needs, all-next _ _ (c .before .before .before .loop .inv .1) (c .entry-ok .ensures ∙ rw (entry-in (c .before .before .before .before .before .before .args .pages .now) (c .before .before .before .before .before .before .args .node) (c .before .before .before .loop .i) (c .before .before .loop-test .taken))))
 
--- src/rows.rt:18:1
 returns : tie.Need-returns Inv-loop μ-loop
-returns c = search needs
+unfolding rowOk entryOkAt
+returns c =
+    let h : c .before .loop .i ≡ 64 = omega arith in
+    rw h at (c .before .loop .inv .1)
 
 pub row-ok-spec : {M : Type 1} → statement M
 row-ok-spec =
@@ -61,14 +35,14 @@ row-ok-spec =
     (tie.spec
     Inv-loop
     μ-loop
-    mul-a
+    (λ c. search needs)
     loop-holds
-    cast-entry-ok
-    add-entry-ok
-    mul-entry-ok
-    shared-slice-read-entry-ok
-    entry-ok-requires
-    add-i
-    loop-less
+    (λ c. search needs)
+    (λ c. search needs)
+    (λ c. search needs)
+    (λ c. search needs)
+    (λ c κs. search needs)
+    (λ c. search needs)
+    (λ c. search needs)
     loop-again
     returns)

@@ -1,54 +1,36 @@
+use mathlib.Core.Path.{_≡_, refl, ap}
+use Prim.Native.Nat.{ℕ, _≤_, _-_, _*_, _/_, _+_}
+use native.Mathlib.Omega.{arith}
+use Rattle.logic.specs.Below.{sumBelow}
+use Rattle.logic.proofs.Laws.{sum-next}
+use Rattle.sound.specs.Rows.{rowPins, pinsAt}
+use Rattle.sound.proofs.Laws.{entry-in}
 use borrow.Author.Needs.{needs}
 use Rattle.sound.proofs.rows.row_pins.Statement.{statement}
 use Rattle.sound.proofs.rows.row_pins.Tie as tie
-use Rattle.sound.proofs.rows.row_pins.Reads as reads
-use Rattle.sound.proofs.rows.row_pins.Lts as lts
 
 abbrev Inv-loop : tie.InvT-loop
-Inv-loop pages node a sum₀ i₀ sum i = ?
+Inv-loop pages node a sum₀ i₀ sum i = (i ≤ 64) × (sum ≤ 262143 * i) × (sum ≡ sumBelow (pinsAt pages node) i)
 
 abbrev μ-loop : tie.MeasureT-loop
-μ-loop pages node a sum₀ i₀ sum i = ?
+μ-loop pages node a sum₀ i₀ sum i = 64 - i
 
--- src/rows.rt:38:13
-mul-a : tie.Need-mul-a Inv-loop μ-loop
-mul-a c = search needs
-
--- src/rows.rt:41:5
 loop-holds : tie.Need-loop-holds Inv-loop μ-loop
-loop-holds c = search needs
+unfolding sumBelow
+loop-holds c = (search needs, search needs, refl)
 
--- src/rows.rt:42:23
-add-e : tie.Need-add-e Inv-loop μ-loop
-add-e c = search needs
-
--- src/rows.rt:42:17
-mul-e : tie.Need-mul-e Inv-loop μ-loop
-mul-e c = search needs
-
--- src/rows.rt:42:17
-shared-slice-read-e : tie.Need-shared-slice-read-e Inv-loop μ-loop
-shared-slice-read-e c = search needs
-
--- src/rows.rt:43:9
 add-sum : tie.Need-add-sum Inv-loop μ-loop
-add-sum c = search needs
+add-sum c = omega (arith, c .shared-slice-known .given (c .before .before .before .args .node * 64 + c .before .before .loop .i))
 
--- src/rows.rt:44:9
-add-i : tie.Need-add-i Inv-loop μ-loop
-add-i c = search needs
-
--- src/rows.rt:41:5
-loop-less : tie.Need-loop-less Inv-loop μ-loop
-loop-less c = search needs
-
--- src/rows.rt:41:5
 loop-again : tie.Need-loop-again Inv-loop μ-loop
-loop-again c = search needs
+unfolding pinsAt
+loop-again c = (search needs, omega (arith, c .shared-slice-known .given (c .before .before .before .args .node * 64 + c .before .before .loop .i)), sum-next _ _ (c .before .before .loop .inv .2) (ap (λ (e : ℕ). e / 16384) (entry-in (c .before .before .before .args .pages .now) (c .before .before .before .args .node) (c .before .before .loop .i) (c .before .loop-test .taken))))
 
--- src/rows.rt:34:1
 returns : tie.Need-returns Inv-loop μ-loop
-returns c = search needs
+unfolding rowPins
+returns c =
+    let h : c .before .loop .i ≡ 64 = omega arith in
+    rw h at (c .before .loop .inv .2)
 
 pub row-pins-spec : {M : Type 1} → statement M
 row-pins-spec =
@@ -56,13 +38,13 @@ row-pins-spec =
     (tie.spec
     Inv-loop
     μ-loop
-    mul-a
+    (λ c. search needs)
     loop-holds
-    add-e
-    mul-e
-    shared-slice-read-e
+    (λ c. search needs)
+    (λ c. search needs)
+    (λ c. search needs)
     add-sum
-    add-i
-    loop-less
+    (λ c. search needs)
+    (λ c. search needs)
     loop-again
     returns)

@@ -1,47 +1,32 @@
+use mathlib.Core.Path.{_≡_, refl}
+use Prim.Native.Nat.{_≤_, _-_, _*_}
+use native.Mathlib.Omega.{arith}
+use Rattle.logic.specs.Below.{sumBelow}
+use Rattle.logic.proofs.Laws.{sum-next}
+use Rattle.sound.specs.Tree.{startsSum, startOf}
 use borrow.Author.Needs.{needs}
 use Rattle.sound.proofs.tree.starts.Statement.{statement}
 use Rattle.sound.proofs.tree.starts.Tie as tie
-use Rattle.sound.proofs.tree.starts.Reads as reads
-use Rattle.sound.proofs.tree.starts.Lts as lts
-use Rattle.tables.proofs.word_at.Reads as word-at-reads
 
 abbrev Inv-loop : tie.InvT-loop
-Inv-loop nodes sum₀ i₀ sum i = ?
+Inv-loop nodes sum₀ i₀ sum i = (i ≤ 64) × (sum ≤ 4294967295 * i) × (sum ≡ sumBelow (startOf nodes) i)
 
 abbrev μ-loop : tie.MeasureT-loop
-μ-loop nodes sum₀ i₀ sum i = ?
+μ-loop nodes sum₀ i₀ sum i = 64 - i
 
--- src/tree.rt:133:5
 loop-holds : tie.Need-loop-holds Inv-loop μ-loop
-loop-holds c = search needs
+unfolding sumBelow
+loop-holds c = (search needs, search needs, refl)
 
--- src/tree.rt:134:13
-word-at-requires : tie.Need-word-at-requires Inv-loop μ-loop
-word-at-requires c κs = search needs
-
--- src/tree.rt:135:16
-cast-sum : tie.Need-cast-sum Inv-loop μ-loop
-cast-sum c = search needs
-
--- src/tree.rt:135:9
-add-sum : tie.Need-add-sum Inv-loop μ-loop
-add-sum c = search needs
-
--- src/tree.rt:136:9
-add-i : tie.Need-add-i Inv-loop μ-loop
-add-i c = search needs
-
--- src/tree.rt:133:5
-loop-less : tie.Need-loop-less Inv-loop μ-loop
-loop-less c = search needs
-
--- src/tree.rt:133:5
 loop-again : tie.Need-loop-again Inv-loop μ-loop
-loop-again c = search needs
+unfolding startOf
+loop-again c = (search needs, search needs, sum-next _ _ (c .before .before .loop .inv .2) (c .word-at .ensures))
 
--- src/tree.rt:128:1
 returns : tie.Need-returns Inv-loop μ-loop
-returns c = search needs
+unfolding startsSum
+returns c =
+    let h : c .before .loop .i ≡ 64 = omega arith in
+    (rw h at (c .before .loop .inv .2), omega arith)
 
 pub starts-spec : {M : Type 1} → statement M
 starts-spec =
@@ -50,10 +35,10 @@ starts-spec =
     Inv-loop
     μ-loop
     loop-holds
-    word-at-requires
-    cast-sum
-    add-sum
-    add-i
-    loop-less
+    (λ c κs. search needs)
+    (λ c. search needs)
+    (λ c. search needs)
+    (λ c. search needs)
+    (λ c. search needs)
     loop-again
     returns)

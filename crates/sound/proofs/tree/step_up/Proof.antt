@@ -1,63 +1,30 @@
+use mathlib.Core.Path.{_≡_, refl}
+use Prim.Native.Nat.{_≤_, _-_}
+use native.Mathlib.Omega.{arith}
+use lib.ListN.{length, length-set}
+use Rattle.sound.specs.Tree.{stepTo}
+use Rattle.sound.proofs.Laws.{step-next}
 use borrow.Author.Needs.{needs}
 use Rattle.sound.proofs.tree.step_up.Statement.{statement}
 use Rattle.sound.proofs.tree.step_up.Tie as tie
-use Rattle.sound.proofs.tree.step_up.Reads as reads
-use Rattle.sound.proofs.tree.step_up.Lts as lts
-use Rattle.tables.proofs.at.Reads as at-reads
 
 abbrev Inv-loop : tie.InvT-loop
-Inv-loop up out₀ i₀ out i = ?
+Inv-loop up out₀ i₀ out i = (i ≤ 65) × (length out ≡ 65) × (out ≡ stepTo up i)
 
 abbrev μ-loop : tie.MeasureT-loop
-μ-loop up out₀ i₀ out i = ?
+μ-loop up out₀ i₀ out i = 65 - i
 
--- src/tree.rt:95:5
 loop-holds : tie.Need-loop-holds Inv-loop μ-loop
-loop-holds c = search needs
+unfolding stepTo
+loop-holds c = (search needs, search needs, refl)
 
--- src/tree.rt:96:20
-mul-link : tie.Need-mul-link Inv-loop μ-loop
-mul-link c = search needs
-
--- src/tree.rt:96:20
-array-read-link : tie.Need-array-read-link Inv-loop μ-loop
-array-read-link c = search needs
-
--- src/tree.rt:97:29
-slice-aggregate-at : tie.Need-slice-aggregate-at Inv-loop μ-loop
-slice-aggregate-at c = search needs
-
--- src/tree.rt:97:34
-cast-at : tie.Need-cast-at Inv-loop μ-loop
-cast-at c = search needs
-
--- src/tree.rt:97:18
-at-requires : tie.Need-at-requires Inv-loop μ-loop
-at-requires c κs = search needs
-
--- src/tree.rt:97:9
-mul-out : tie.Need-mul-out Inv-loop μ-loop
-mul-out c = search needs
-
--- src/tree.rt:97:9
-array-write-out : tie.Need-array-write-out Inv-loop μ-loop
-array-write-out c = search needs
-
--- src/tree.rt:98:9
-add-i : tie.Need-add-i Inv-loop μ-loop
-add-i c = search needs
-
--- src/tree.rt:95:5
-loop-less : tie.Need-loop-less Inv-loop μ-loop
-loop-less c = search needs
-
--- src/tree.rt:95:5
 loop-again : tie.Need-loop-again Inv-loop μ-loop
-loop-again c = search needs
+loop-again c = (search needs, simp length-set (search needs), step-next _ _ (c .before .before .before .loop .inv .2) (c .at .ensures))
 
--- src/tree.rt:90:1
 returns : tie.Need-returns Inv-loop μ-loop
-returns c = search needs
+returns c =
+    let h : c .before .loop .i ≡ 65 = omega arith in
+    rw h at (c .before .loop .inv .2)
 
 pub step-up-spec : {M : Type 1} → statement M
 step-up-spec =
@@ -66,14 +33,14 @@ step-up-spec =
     Inv-loop
     μ-loop
     loop-holds
-    mul-link
-    array-read-link
-    slice-aggregate-at
-    cast-at
-    at-requires
-    mul-out
-    array-write-out
-    add-i
-    loop-less
+    (λ c. search needs)
+    (λ c. search needs)
+    (λ c. search needs)
+    (λ c. search needs)
+    (λ c κs. search needs)
+    (λ c. search needs)
+    (λ c. search needs)
+    (λ c. search needs)
+    (λ c. search needs)
     loop-again
     returns)

@@ -1,0 +1,26 @@
+use Rattle.sound.specs.Rows.{rowTest}
+use Rattle.sound.proofs.Laws.{empty-test, empty-marks}
+use mathlib.Core.Path.{_∙_, sym}
+use borrow.Author.Needs.{needs}
+use Rattle.sound.proofs.rows.row_test.Statement.{statement}
+use Rattle.sound.proofs.rows.row_test.Tie as tie
+
+returns : tie.Need-returns
+returns c = (empty-test _ _ (sym (c .before .row-count .ensures) ∙ c .if1 .taken) _ _, empty-marks _ _ (sym (c .before .row-count .ensures) ∙ c .if1 .taken) _)
+
+returns-2 : tie.Need-returns-2
+unfolding rowTest
+returns-2 c = (rw (← (c .before .before .before .node-at .ensures), ← (c .before .before .row-ok .ensures), ← (c .before .row-pins .ensures)), c .before .before .before .before .before .before .mark-row .ensures)
+
+pub row-test-spec : {M : Type 1} → statement M
+row-test-spec =
+    tie.close
+    (tie.spec
+    (λ c κs. search needs)
+    returns
+    (λ c κs. search needs)
+    (λ c κs. search needs)
+    (λ c κs. search needs)
+    (λ c κs. search needs)
+    (λ c. search needs)
+    returns-2)
