@@ -1,0 +1,28 @@
+-- What a call can say, by document 01's numbers; the value is 0 where it is refused.
+use Prim.Native.Nat.{ℕ}
+use Rattle.pool.specs.declared.answer.Answer.{Answer}
+use Rattle.pool.specs.declared.answer.Answer.the-variants.{Done, Refused}
+use Rattle.pool.specs.declared.answer.Refusal.{Refusal}
+use Rattle.pool.specs.declared.answer.Refusal.the-variants.{OutOfRange, BadState, InvalidArgs, NoMemory, NotSupported, Unavailable, BadPool, NoObject, NoNode, NoRoom, Stopped, PinLedger}
+
+abbrev pub refusalNumber : Refusal → ℕ
+refusalNumber OutOfRange = 1
+refusalNumber BadState = 2
+refusalNumber InvalidArgs = 3
+refusalNumber NoMemory = 4
+refusalNumber NotSupported = 5
+refusalNumber Unavailable = 6
+refusalNumber BadPool = 7
+refusalNumber NoObject = 8
+refusalNumber NoNode = 9
+refusalNumber NoRoom = 10
+refusalNumber Stopped = 11
+refusalNumber PinLedger = 12
+
+abbrev pub codeOf : Answer → ℕ
+codeOf (Done v) = 0
+codeOf (Refused r) = refusalNumber r
+
+abbrev pub valueOf : Answer → ℕ
+valueOf (Done v) = v
+valueOf (Refused r) = 0
