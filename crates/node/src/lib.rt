@@ -24,12 +24,17 @@ pub struct Side {
 
 impl Node {
     pub const FREE: u32 = 0;
+
     pub const ORIGIN: u32 = 1;
+
     pub const SNAPSHOT: u32 = 2;
+
     pub const HIDDEN: u32 = 3;
     // The link to no node.
     pub const NONE: u32 = 0;
+
     pub const MAX_PIN_COUNT: u32 = 31;
+
     pub const MAX_PAGES: u32 = 64;
 
     pub fn free() -> Self

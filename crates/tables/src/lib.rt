@@ -80,8 +80,26 @@ fn put_five(nodes: &mut [u32], node: u32, k: u32, a: u32, b: u32, c: u32, d: u32
 pub fn set_node(nodes: &mut [u32], node: u32, n: Node)
     ensures { λ _. ⌜ now (nodes .exit) ≡ withNode (now (nodes .entry)) node n ⌝ }
 {
-    put_five(nodes, node, 0, n.kind, n.parent, n.left, n.right, n.parent_offset);
-    put_five(nodes, node, 5, n.parent_limit, n.size, n.owner, n.cache_policy, n.pin_count);
+    put_five(
+        nodes,
+        node,
+        0,
+        n.kind,
+        n.parent,
+        n.left,
+        n.right,
+        n.parent_offset,
+    );
+    put_five(
+        nodes,
+        node,
+        5,
+        n.parent_limit,
+        n.size,
+        n.owner,
+        n.cache_policy,
+        n.pin_count,
+    );
 }
 
 // The word of a page's entry. A page past the last is absent, so that no row runs into the next.

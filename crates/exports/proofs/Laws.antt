@@ -1,0 +1,11 @@
+-- An answer's number and value are what its call gives. Assumes nothing.
+use mathlib.Core.Path.{_≡_}
+use Prim.Native.Nat.{ℕ}
+use Rattle.tables.specs.Pool.{Pool}
+use Rattle.pool.specs.declared.answer.Answer.{Answer}
+use Rattle.pool.specs.Answers.{codeOf, valueOf}
+use Rattle.pool.specs.Calls.{Call, callOf}
+use Rattle.exports.specs.Exports.{givenOf, given}
+
+pub gives : (p : Pool) {k : Call} {r : Answer} {c v : ℕ} → callOf r p ≡ k → v ≡ valueOf r → c ≡ codeOf r → givenOf c v p ≡ given k
+gives p e h t = rw (← e, h, t)
