@@ -1,6 +1,6 @@
 -- Turns of the loops of the sound test, and rows without entries. Assumes nothing.
 use mathlib.Core.Path.{_≡_, refl, sym, ap, _∙_}
-use mathlib.Core.Bool.{Bool, true, false, _&&_, _||_, not, and-assoc}
+use mathlib.Core.Bool.{Bool, true, false, _&&_, _||_, not, and-assoc, and-true}
 use mathlib.Core.List.{List}
 use Prim.Native.Nat.{ℕ, zero, suc, _+_, _*_, _≤_, _<_}
 use native.Mathlib.Omega.{arith}
@@ -16,11 +16,13 @@ use Rattle.tables.specs.Pool.{Pool}
 use Rattle.sound.specs.Sound.{lengthsOk}
 use Rattle.tables.specs.Tables.{wordOf, nodeOf, entryOf, mappingOf}
 use Rattle.node.specs.declared.Node.{Node}
+use Rattle.node.specs.Node.{hiddenOf}
 use Rattle.tables.specs.declared.Mapping.{Mapping}
+use Rattle.sound.specs.declared.rows.Row.{Row}
 use Rattle.sound.specs.Maps.{mappingOk, blankOf, numberOf, placeOk}
 use Rattle.sound.specs.Tree.{linkedOf, namedOk, belowOk, linksOk, linksTo, stepTo}
 use Rattle.entry.specs.Entry.{lowOf}
-use Rattle.sound.specs.Rows.{presentAt, rowCount, moreOf, markEntry, markRun, markRows, rowTest, rowOk, entryOkAt, entryOk, rowPins, pinsAt, frameOk}
+use Rattle.sound.specs.Rows.{rowOf, rowNext, presentAt, rowCount, moreOf, markEntry, markRun, markRows, rowTest, rowOk, entryOkAt, entryOk, rowPins, pinsAt, frameOk}
 
 pub entry-in : (pages : List ℕ) (n i : ℕ) → i < 64 → getD pages (n * 64 + i) 0 ≡ entryOf pages n i
 unfolding entryOf
@@ -92,9 +94,20 @@ module _ (pages : List ℕ) (n : ℕ) (h : rowCount pages n ≡ 0) where
   pub empty-test : (nodes : List ℕ) (F : ℕ) → true ≡ rowTest nodes pages F n
   unfolding rowTest rowOk entryOkAt entryOk rowPins pinsAt
   empty-test nodes F =
-      let r = below-all (entryOkAt (nodeOf nodes n) F pages n) 64 (λ i l. rw (absent i l)) in
+      let r = below-all (entryOkAt (hiddenOf (nodeOf nodes n)) (nodeOf nodes n .size) F pages n) 64 (λ i l. rw (absent i l)) in
       let p = none-sum (pinsAt pages n) 64 (λ i l. rw (absent i l)) in
       rw (r, p) (sym (le-leb 0 (nodeOf nodes n .«pin_count») (omega arith)))
+
+pub row-same : (hidden : Bool) (size F i e : ℕ) (row : Row) → e ≡ 0 → row ≡ rowNext hidden size F i e row
+unfolding rowNext entryOk
+row-same hidden size F i e row h =
+    let z : row .pins + 0 ≡ row .pins = omega arith in
+    rw (h, z) (rw (and-true (row .ok)))
+
+-- a turn of the walk along a row
+pub walk-next : (hidden : Bool) (size F : ℕ) (pages : List ℕ) (n i : ℕ) {row r : Row} {e : ℕ} → row ≡ rowOf (allBelow (entryOkAt hidden size F pages n) i) (sumBelow (pinsAt pages n) i) → e ≡ entryOf pages n i → r ≡ rowNext hidden size F i e row → r ≡ rowOf (allBelow (entryOkAt hidden size F pages n) (i + 1)) (sumBelow (pinsAt pages n) (i + 1))
+unfolding rowNext entryOkAt pinsAt allBelow sumBelow
+walk-next hidden size F pages n i p q h = h ∙ rw (add-one, p, q)
 
 pub frame-next : (used marks : List ℕ) (i : ℕ) {ok : Bool} → ok ≡ allBelow (frameOk used marks) i → (ok && eqb (getD used i 0) (getD marks (i + 1) 0) && leb (getD used i 0) 1) ≡ allBelow (frameOk used marks) (i + 1)
 unfolding frameOk
@@ -125,3 +138,7 @@ unfolding lengthsOk
 lengths-hold L p h =
     let t = pick-true (leb (length (p .used)) 1024) _ h in
     (eqb-true _ _ (second (eqb (length (p .nodes)) 1024) (eqb (length (p .pages)) 4096) (eqb (length (p .mappings)) 256) (eqb (length (p .head)) 4) (leb 1 (length (p .used))) (eqb (length (p .memory)) (length (p .used) * L)) (t .1)), leb-true _ _ (t .0))
+
+pub row-by : (nodes pages : List ℕ) (F n : ℕ) {r : Node} {h : Bool} {row : Row} → r ≡ nodeOf nodes n → h ≡ hiddenOf r → row ≡ rowOf (rowOk h (r .size) F pages n) (rowPins pages n) → (row .ok && leb (row .pins) (r .«pin_count»)) ≡ rowTest nodes pages F n
+unfolding rowTest
+row-by nodes pages F n e h w = rw (w, h, e)

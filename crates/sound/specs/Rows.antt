@@ -7,9 +7,9 @@ use lib.ListN.{length, getD, set}
 use Rattle.logic.specs.Pick.{pick}
 use Rattle.logic.specs.Below.{allBelow, sumBelow}
 use Rattle.entry.specs.Entry.{lowOf}
-use Rattle.node.specs.declared.Node.{Node}
 use Rattle.node.specs.Node.{hiddenOf}
 use Rattle.tables.specs.Tables.{nodeOf, entryOf}
+use Rattle.sound.specs.declared.rows.Row.{Row}
 
 -- an entry of page i in a node of that size: absent; or a frame below F, with a tag and no pins in a hidden node, pins and no tag in a leaf
 unfoldable pub entryOk : Bool → ℕ → ℕ → ℕ → ℕ → Bool
@@ -18,17 +18,24 @@ entryOk hidden size F i e =
     || (leb 1 (lowOf e) && leb (lowOf e) F && ltb i size
     && (hidden && ltb e 12288 || not hidden && ltb e 524288 && eqb (e / 4096 % 4) 0))
 
-unfoldable pub entryOkAt : Node → ℕ → List ℕ → ℕ → ℕ → Bool
-entryOkAt r F pages n i = entryOk (hiddenOf r) (r .size) F i (entryOf pages n i)
+unfoldable pub entryOkAt : Bool → ℕ → ℕ → List ℕ → ℕ → ℕ → Bool
+entryOkAt hidden size F pages n i = entryOk hidden size F i (entryOf pages n i)
 
-unfoldable pub rowOk : Node → ℕ → List ℕ → ℕ → Bool
-rowOk r F pages n = allBelow (entryOkAt r F pages n) 64
+unfoldable pub rowOk : Bool → ℕ → ℕ → List ℕ → ℕ → Bool
+rowOk hidden size F pages n = allBelow (entryOkAt hidden size F pages n) 64
 
 unfoldable pub pinsAt : List ℕ → ℕ → ℕ → ℕ
 pinsAt pages n i = entryOf pages n i / 16384
 
 unfoldable pub rowPins : List ℕ → ℕ → ℕ
 rowPins pages n = sumBelow (pinsAt pages n) 64
+
+-- a row so far, with one entry more
+abbrev pub rowOf : Bool → ℕ → Row
+rowOf b p = record { ok = b; pins = p }
+
+unfoldable pub rowNext : Bool → ℕ → ℕ → ℕ → ℕ → Row → Row
+rowNext hidden size F i e row = rowOf (row .ok && entryOk hidden size F i e) (row .pins + e / 16384)
 
 abbrev pub oneIf : ℕ → ℕ
 oneIf e = pick (eqb e 0) 0 1
@@ -41,7 +48,8 @@ rowCount pages n = sumBelow (presentAt pages n) 64
 
 -- the row's entries, and no more pins than the node's count
 unfoldable pub rowTest : List ℕ → List ℕ → ℕ → ℕ → Bool
-rowTest nodes pages F n = rowOk (nodeOf nodes n) F pages n && leb (rowPins pages n) (nodeOf nodes n .«pin_count»)
+rowTest nodes pages F n =
+    rowOk (hiddenOf (nodeOf nodes n)) (nodeOf nodes n .size) F pages n && leb (rowPins pages n) (nodeOf nodes n .«pin_count»)
 
 unfoldable pub rowsOk : List ℕ → List ℕ → ℕ → Bool
 rowsOk nodes pages F = allBelow (rowTest nodes pages F) 64

@@ -1,10 +1,15 @@
 // Page entries, row by row: each by itself, the pins of a row, and how often each frame stands.
-use node::Node;
 ghost use mathlib.Core.Path.{_≡_};
 ghost use Prim.Native.Nat.{_≤_, _<_};
 ghost use lib.ListN.{length};
-ghost use Rattle.sound.specs.Rows.{entryOk, rowOk, rowPins, rowCount, rowTest, moreOf, markEntry, markRun, markRows, rowsOk, framesOk, oneIf};
-ghost use Rattle.tables.specs.Tables.{entryOf, nodeOf};
+ghost use Rattle.sound.specs.Rows.{entryOk, rowOf, rowNext, rowOk, rowPins, rowCount, rowTest, moreOf, markEntry, markRun, markRows, rowsOk, framesOk, oneIf};
+ghost use Rattle.tables.specs.Tables.{entryOf};
+
+// A row so far: its entries are good, and their pins add up to this.
+struct Row {
+    ok: bool,
+    pins: u32,
+}
 
 fn entry_ok(e: u32, page: u32, hidden: bool, size: u32, frames: usize) -> bool
     ensures { λ r. ⌜ r ≡ entryOk hidden size frames page e ⌝ }
@@ -13,37 +18,6 @@ fn entry_ok(e: u32, page: u32, hidden: bool, size: u32, frames: usize) -> bool
     let split = hidden & (e < 12288);
     let owned = !hidden & (e < 524288) & (e / 4096 % 4 == 0);
     (e == 0) | ((1 <= low) & (low as usize <= frames) & (page < size) & (split | owned))
-}
-
-fn row_ok(pages: &[u32], node: u32, n: Node, frames: usize) -> bool
-    requires { ⌜ (length (now pages) ≡ 4096) × (node < 64) ⌝ }
-    ensures { λ r. ⌜ r ≡ rowOk n frames (now (pages .entry)) node ⌝ }
-{
-    let a = node as usize * 64;
-    let hidden = n.kind == Node::HIDDEN;
-    let size = n.size;
-    let mut ok = true;
-    let mut i: u32 = 0;
-    while i < 64 {
-        ok = ok & entry_ok(pages[a + i as usize], i, hidden, size, frames);
-        i += 1;
-    }
-    ok
-}
-
-fn row_pins(pages: &[u32], node: u32) -> u32
-    requires { ⌜ (length (now pages) ≡ 4096) × (node < 64) ⌝ }
-    ensures { λ r. ⌜ r ≡ rowPins (now (pages .entry)) node ⌝ }
-{
-    let a = node as usize * 64;
-    let mut sum: u32 = 0;
-    let mut i = 0;
-    while i < 64 {
-        let e = pages[a + i];
-        sum += e / 16384;
-        i += 1;
-    }
-    sum
 }
 
 fn present(e: u32) -> u32
@@ -93,16 +67,49 @@ pub fn mark_entry(marks: &mut [u8], e: u32)
     }
 }
 
-fn mark_row(pages: &[u32], node: u32, marks: &mut [u8])
+// An entry is tested, its pins are counted and its frame is marked; an absent one is passed over at once.
+fn entry_step(
+    marks: &mut [u8],
+    e: u32,
+    page: u32,
+    hidden: bool,
+    size: u32,
+    frames: usize,
+    row: Row,
+) -> Row
+    requires { ⌜ row .pins ≤ 16777152 ⌝ }
+    ensures { λ r. ⌜ (r ≡ rowNext hidden size frames page e row) × (now (marks .exit) ≡ markEntry (now (marks .entry)) e) ⌝ }
+{
+    if e == 0 {
+        return row;
+    }
+    mark_entry(marks, e);
+    Row {
+        ok: row.ok & entry_ok(e, page, hidden, size, frames),
+        pins: row.pins + e / 16384,
+    }
+}
+
+fn walk_row(
+    pages: &[u32],
+    node: u32,
+    hidden: bool,
+    size: u32,
+    frames: usize,
+    marks: &mut [u8],
+) -> Row
     requires { ⌜ (length (now pages) ≡ 4096) × (node < 64) ⌝ }
-    ensures { λ _. ⌜ now (marks .exit) ≡ markRun (entryOf (now (pages .entry)) node) 64 (now (marks .entry)) ⌝ }
+    ensures { λ r. ⌜ (r ≡ rowOf (rowOk hidden size frames (now (pages .entry)) node) (rowPins (now (pages .entry)) node))
+        × (now (marks .exit) ≡ markRun (entryOf (now (pages .entry)) node) 64 (now (marks .entry))) ⌝ }
 {
     let a = node as usize * 64;
-    let mut i = 0;
+    let mut row = Row { ok: true, pins: 0 };
+    let mut i: u32 = 0;
     while i < 64 {
-        mark_entry(marks, pages[a + i]);
+        row = entry_step(marks, pages[a + i as usize], i, hidden, size, frames, row);
         i += 1;
     }
+    row
 }
 
 // A row without entries needs no look at each.
@@ -113,9 +120,9 @@ fn row_test(nodes: &[u32], pages: &[u32], node: u32, frames: usize, marks: &mut 
     if row_count(pages, node) == 0 {
         return true;
     }
-    mark_row(pages, node, marks);
     let n = tables::node_at(nodes, node);
-    row_ok(pages, node, n, frames) & (row_pins(pages, node) <= n.pin_count)
+    let row = walk_row(pages, node, n.is_hidden(), n.size, frames, marks);
+    row.ok & (row.pins <= n.pin_count)
 }
 
 pub fn rows_ok(nodes: &[u32], pages: &[u32], frames: usize, marks: &mut [u8]) -> bool
