@@ -1,0 +1,13 @@
+pub mod Means
+pub mod Records
+pub mod Nodes
+pub mod Sums
+pub mod Ancestors
+pub mod Chains
+pub mod Trees
+pub mod Slots
+pub mod Entries
+pub mod Marks
+pub mod Frames
+pub mod Mapped
+pub mod Soundness
