@@ -6,6 +6,7 @@
 extern crate alloc;
 
 pub mod cowlines;
+pub mod generate;
 pub mod hash;
 pub mod kernel_hal;
 pub mod lines;

@@ -25,7 +25,11 @@ fn live(state: &State) -> impl Iterator<Item = usize> + '_ {
 fn nodes(state: &State, _used: &[bool]) -> Checked {
     for n in 0..NODES {
         let free = state.nodes[n][KIND] == FREE;
-        rule(!free || state.nodes[n] == free_node(n), "a free node is empty", n)?;
+        rule(
+            !free || state.nodes[n] == free_node(n),
+            "a free node is empty",
+            n,
+        )?;
     }
     for n in live(state) {
         links(state, n)?;
@@ -64,9 +68,17 @@ fn record(words: &Words, n: usize) -> Checked {
     let pages = PAGES as u32;
     rule(words[SIZE] <= pages, "the size is at most 64 pages", n)?;
     rule(words[POLICY] <= 3, "the policy is at most 3", n)?;
-    rule(words[START] <= words[END], "the window starts before its end", n)?;
+    rule(
+        words[START] <= words[END],
+        "the window starts before its end",
+        n,
+    )?;
     let length = words[END] - words[START];
-    rule(length <= words[SIZE], "the window is no longer than the size", n)
+    rule(
+        length <= words[SIZE],
+        "the window is no longer than the size",
+        n,
+    )
 }
 
 fn entries(state: &State, n: usize) -> Checked {
@@ -86,13 +98,20 @@ fn entries(state: &State, n: usize) -> Checked {
         rule(entry.pins <= 31, "pins are at most 31", n)?;
         rule(!hidden || entry.pins == 0, "hidden pages have no pins", n)?;
     }
-    rule(hidden || words[PINS] as u64 >= pins, "the count covers the pins", n)
+    rule(
+        hidden || words[PINS] as u64 >= pins,
+        "the count covers the pins",
+        n,
+    )
 }
 
 fn frames(state: &State, used: &[bool]) -> Checked {
     let mut named = vec![false; used.len()];
     for n in live(state) {
-        for frame in (0..PAGES).filter_map(|page| state.entry(n, page)).map(|e| e.frame) {
+        for frame in (0..PAGES)
+            .filter_map(|page| state.entry(n, page))
+            .map(|e| e.frame)
+        {
             let fresh = frame < named.len() && !named[frame];
             rule(fresh, "a frame stands in one entry", frame)?;
             named[frame] = true;
@@ -100,20 +119,32 @@ fn frames(state: &State, used: &[bool]) -> Checked {
     }
     for frame in 0..used.len() {
         let same = named[frame] == used[frame];
-        rule(same, "a frame is in use exactly if an entry names it", frame)?;
+        rule(
+            same,
+            "a frame is in use exactly if an entry names it",
+            frame,
+        )?;
     }
     Ok(())
 }
 
 fn owners(state: &State, _used: &[bool]) -> Checked {
     let next = state.next_owner;
-    rule((1..=OWNERS_END).contains(&next), "the next owner is in range", next as usize)?;
+    rule(
+        (1..=OWNERS_END).contains(&next),
+        "the next owner is in range",
+        next as usize,
+    )?;
     for n in live(state) {
         rule(state.nodes[n][OWNER] < next, "owners are below the next", n)?;
     }
     let starts: u64 = live(state).map(|n| state.nodes[n][START] as u64).sum();
     let most = PAGES as u64 * (next as u64 - 1);
-    rule(starts <= most, "the window starts are bounded by the owners", starts as usize)
+    rule(
+        starts <= most,
+        "the window starts are bounded by the owners",
+        starts as usize,
+    )
 }
 
 fn mappings(state: &State, _used: &[bool]) -> Checked {
@@ -121,11 +152,19 @@ fn mappings(state: &State, _used: &[bool]) -> Checked {
         if let Some(mapping) = mapping {
             rule(state.is_leaf(mapping.object), "a mapping names a leaf", m)?;
             let ends = mapping.first + mapping.pages <= PAGES;
-            rule(mapping.pages >= 1 && ends, "a mapping lies below page 64", m)?;
+            rule(
+                mapping.pages >= 1 && ends,
+                "a mapping lies below page 64",
+                m,
+            )?;
             let listed = state.lists[mapping.object].iter().filter(|x| **x == m);
             rule(listed.count() == 1, "a mapping is in its object's list", m)?;
         }
     }
     let listed: usize = state.lists.iter().map(Vec::len).sum();
-    rule(listed == state.live_mappings(), "lists hold live mappings only", listed)
+    rule(
+        listed == state.live_mappings(),
+        "lists hold live mappings only",
+        listed,
+    )
 }

@@ -113,7 +113,11 @@ impl State {
             } else {
                 (words[END] - words[START]) as usize
             };
-            let entry = if page < PAGES { self.entry(node, page) } else { None };
+            let entry = if page < PAGES {
+                self.entry(node, page)
+            } else {
+                None
+            };
             if let Some(entry) = entry {
                 return Some(entry.frame);
             }

@@ -70,7 +70,13 @@ pub fn read_out(node: &Node, names: &Names, words: &mut Words, list: &mut Vec<us
     words[state::POLICY] = inner.cache_policy as u32;
     words[state::PINS] = inner.pin_count as u32;
     list.clear();
-    list.extend(inner.mappings.iter().flat_map(Weak::upgrade).map(|m| m.number));
+    list.extend(
+        inner
+            .mappings
+            .iter()
+            .flat_map(Weak::upgrade)
+            .map(|m| m.number),
+    );
 }
 
 fn whole_pages(bytes: usize) -> u32 {
@@ -160,7 +166,11 @@ fn unlinked(words: &Words, owner_base: u64) -> VMObjectPagedInner {
 }
 
 fn link(nodes: &[Option<Node>], number: usize, words: &Words) {
-    let other = |word: u32| (word as usize).checked_sub(1).and_then(|n| nodes[n].clone());
+    let other = |word: u32| {
+        (word as usize)
+            .checked_sub(1)
+            .and_then(|n| nodes[n].clone())
+    };
     let node = nodes[number].as_ref().expect("a live node");
     let mut inner = node.inner.borrow_mut();
     inner.parent = other(words[state::PARENT]);
