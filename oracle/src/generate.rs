@@ -131,6 +131,10 @@ impl Generator {
     }
 
     fn plan_step(&mut self, pool: &Pool) {
+        if pool.state().leaves().is_empty() && self.allows(b'n') && !self.random.one_in(8) {
+            let pages = self.pages();
+            return self.plan(format!("n {pages}"));
+        }
         if self.random.one_in(25) {
             return self.plan_recipe(pool);
         }
@@ -257,7 +261,8 @@ impl Generator {
     /// A number of pages for an object, mostly small.
     fn pages(&mut self) -> u64 {
         match self.random.below(16) {
-            0..=11 => self.random.below(5),
+            0 => 0,
+            1..=11 => 1 + self.random.below(4),
             12..=13 => self.random.below(17),
             14 => 60 + self.random.below(7),
             _ => self

@@ -213,16 +213,24 @@ pub mod mem {
         with(|m| m.call.written)
     }
 
-    pub fn frames() -> usize {
-        with(|m| m.frames)
-    }
-
     pub fn free_frames() -> usize {
         with(|m| m.frames - m.used.count())
     }
 
-    pub fn is_used(frame: usize) -> bool {
-        with(|m| m.used.has(frame))
+    /// Of each frame, whether it is in use.
+    pub fn used() -> Vec<bool> {
+        with(|m| (0..m.frames).map(|frame| m.used.has(frame)).collect())
+    }
+
+    pub fn all_bytes() -> Vec<u8> {
+        with(|m| m.bytes.clone())
+    }
+
+    pub fn set_all_bytes(bytes: &[u8]) {
+        with(|m| {
+            m.bytes.copy_from_slice(bytes);
+            m.stale = Marks([u64::MAX; MAX_FRAMES / 64]);
+        });
     }
 
     /// The bytes of a frame, copied.

@@ -27,6 +27,10 @@ impl Trace {
         &self.pool
     }
 
+    pub fn pool_mut(&mut self) -> &mut Pool {
+        &mut self.pool
+    }
+
     /// Answers a line, without line end.
     pub fn answer(&mut self, line: &[u8]) -> String {
         match self.call(line) {

@@ -1,0 +1,115 @@
+//! Random traces on the source: what every call must leave behind.
+
+use oracle::generate::Generator;
+use oracle::kernel_hal::mem;
+use oracle::pool::{Answer, Code, Pool, Snapshot};
+use oracle::sound;
+use oracle::trace::Trace;
+
+fn assert_sound(pool: &Pool, line: &[u8]) {
+    if let Some(rule) = sound::broken(pool.state(), &mem::used()) {
+        panic!("after {}: {rule}", String::from_utf8_lossy(line));
+    }
+}
+
+/// Runs a random trace; `each` gets the pool before, the line, its answer and the pool after.
+fn run(seed: u64, calls: usize, each: impl Fn(&Snapshot, &[u8], Option<&Answer>, &Pool)) {
+    let mut trace = Trace::default();
+    let mut generator = Generator::new(seed, None, 64);
+    for _ in 0..calls {
+        let line = generator.line(trace.pool());
+        let before = trace.pool().snapshot();
+        let answer = trace.call(&line);
+        each(&before, &line, answer.as_ref(), trace.pool());
+    }
+}
+
+/// The bytes of frames in use; those of free frames are nobody's.
+fn used_bytes(snapshot: &Snapshot) -> Vec<u8> {
+    let state = &snapshot.state;
+    let entries = (0..64).flat_map(|n| (0..64).filter_map(move |page| state.entry(n, page)));
+    let mut frames: Vec<usize> = entries.map(|entry| entry.frame).collect();
+    frames.sort();
+    let pages = frames
+        .iter()
+        .map(|f| &snapshot.memory[f * 4096..(f + 1) * 4096]);
+    pages.flatten().copied().collect()
+}
+
+#[test]
+fn every_call_leaves_a_sound_pool() {
+    for seed in 0..20 {
+        run(seed, 3000, |_, line, _, pool| assert_sound(pool, line));
+    }
+}
+
+#[test]
+fn refused_calls_change_nothing() {
+    run(100, 20_000, |before, line, answer, pool| {
+        let whole = b"xtpv".contains(line.first().unwrap_or(&b' '));
+        let changes = match answer.map(|a| a.code) {
+            None => false,
+            Some(Code::Ok | Code::NoMemory) => true,
+            Some(Code::Stopped) => !whole,
+            Some(_) => false,
+        };
+        if !changes {
+            let after = pool.snapshot();
+            let line = String::from_utf8_lossy(line);
+            assert_eq!(before.state, after.state, "after {line}");
+            assert_eq!(used_bytes(before), used_bytes(&after), "after {line}");
+            assert!(answer.is_none_or(|a| a.notices.is_empty()));
+            assert!(answer.is_none_or(|a| a.code == Code::Ok || a.value == 0));
+        }
+    });
+}
+
+#[test]
+fn a_rebuilt_pool_answers_alike() {
+    let (seed, calls) = (200, 6000);
+    let mut trace = Trace::default();
+    let mut generator = Generator::new(seed, None, 64);
+    let mut answers = Vec::new();
+    for _ in 0..calls {
+        let line = generator.line(trace.pool());
+        answers.push((line.clone(), trace.answer(&line)));
+    }
+    drop(trace);
+    let mut trace = Trace::default();
+    for (line, answer) in answers {
+        let snapshot = trace.pool().snapshot();
+        trace.pool_mut().rebuild(&snapshot);
+        assert_eq!(trace.pool().snapshot(), snapshot);
+        assert_eq!(
+            trace.answer(&line),
+            answer,
+            "{}",
+            String::from_utf8_lossy(&line)
+        );
+    }
+}
+
+#[test]
+fn peek_is_what_a_read_gives() {
+    let mut trace = Trace::default();
+    let mut generator = Generator::new(300, None, 64);
+    for _ in 0..4000 {
+        let line = generator.line(trace.pool());
+        trace.call(&line);
+        let snapshot = trace.pool().snapshot();
+        let pool = trace.pool_mut();
+        for object in 0..66 {
+            let mut read = None;
+            let page = object % 3;
+            pool.read(object, page * 4096, 4096, |bytes| {
+                read = Some(bytes.to_vec());
+                0
+            });
+            let read_moved = pool.state() != &snapshot.state;
+            if read_moved {
+                pool.rebuild(&snapshot);
+            }
+            assert_eq!(pool.peek(object, page), read);
+        }
+    }
+}
