@@ -24,16 +24,75 @@ fn run(seed: u64, calls: usize, each: impl Fn(&Snapshot, &[u8], Option<&Answer>,
     }
 }
 
-/// The bytes of frames in use; those of free frames are nobody's.
-fn used_bytes(snapshot: &Snapshot) -> Vec<u8> {
+fn used_frames(snapshot: &Snapshot) -> Vec<usize> {
     let state = &snapshot.state;
     let entries = (0..64).flat_map(|n| (0..64).filter_map(move |page| state.entry(n, page)));
     let mut frames: Vec<usize> = entries.map(|entry| entry.frame).collect();
     frames.sort();
+    frames
+}
+
+/// The bytes of frames in use; those of free frames are nobody's.
+fn used_bytes(snapshot: &Snapshot) -> Vec<u8> {
+    let frames = used_frames(snapshot);
     let pages = frames
         .iter()
         .map(|f| &snapshot.memory[f * 4096..(f + 1) * 4096]);
     pages.flatten().copied().collect()
+}
+
+/// H as TRACE.md defines it, number by number.
+fn by_definition(numbers: impl Iterator<Item = u64>) -> u64 {
+    let step = |h: u64, x: u64| (h * 16_777_619 + x) % (1 << 32);
+    numbers.fold(2_166_136_261, step)
+}
+
+/// TREE, MAPS and MEM as TRACE.md defines them.
+fn hashes_by_definition(snapshot: &Snapshot) -> [u64; 3] {
+    let state = &snapshot.state;
+    let tree = state.nodes.iter().flatten().map(|word| *word as u64);
+    let mut maps = Vec::new();
+    for mapping in &state.mappings {
+        let words = mapping.map_or([0; 3], |m| [m.object + 1, m.first, m.pages]);
+        maps.extend(words);
+    }
+    for list in &state.lists {
+        maps.push(list.len());
+        maps.extend(list);
+    }
+    let mut memory = Vec::new();
+    for frame in used_frames(snapshot) {
+        memory.push(frame as u64);
+        let page = &snapshot.memory[frame * 4096..(frame + 1) * 4096];
+        memory.extend(page.iter().map(|byte| *byte as u64));
+    }
+    [
+        by_definition(tree),
+        by_definition(maps.into_iter().map(|x| x as u64)),
+        by_definition(memory.into_iter()),
+    ]
+}
+
+#[test]
+fn an_answer_line_is_as_defined() {
+    let mut trace = Trace::default();
+    let mut generator = Generator::new(50, None, 64);
+    for _ in 0..3000 {
+        let line = generator.line(trace.pool());
+        let text = trace.answer(&line);
+        let numbers: Vec<u64> = text
+            .split(' ')
+            .map(|x| x.parse().expect("a number"))
+            .collect();
+        let after = trace.pool().snapshot();
+        if text == "3 0" {
+            continue;
+        }
+        assert_eq!(numbers[3], mem::free_frames() as u64);
+        assert_eq!(numbers[4], after.state.next_owner as u64);
+        assert_eq!(numbers[5..8], hashes_by_definition(&after));
+        assert_eq!(numbers.len() as u64, 9 + 4 * numbers[8]);
+    }
 }
 
 #[test]
@@ -46,7 +105,7 @@ fn every_call_leaves_a_sound_pool() {
 #[test]
 fn refused_calls_change_nothing() {
     run(100, 20_000, |before, line, answer, pool| {
-        let whole = b"xtpv".contains(line.first().unwrap_or(&b' '));
+        let whole = b"xtpvg".contains(line.first().unwrap_or(&b' '));
         let changes = match answer.map(|a| a.code) {
             None => false,
             Some(Code::Ok | Code::NoMemory) => true,

@@ -25,7 +25,7 @@ fn hash_by_blocks_is_hash_by_numbers() {
         let expected = by_definition(bytes.iter().map(|byte| *byte as u64));
         assert_eq!(hash::of_bytes(&bytes), expected);
     }
-    let words: Vec<u32> = (0..75).map(|i| i * 123_456_789 % 4_000_037).collect();
+    let words: Vec<u32> = (0..75u32).map(|i| i.wrapping_mul(123_456_789)).collect();
     let joined = hash::join(hash::step(hash::START, 5), hash::block_of_words(&words), 75);
     let numbers = [5].into_iter().chain(words.iter().map(|word| *word as u64));
     assert_eq!(joined, by_definition(numbers));
