@@ -17,11 +17,11 @@ const STYLES: [&str; 7] = [
     // children grown, cloned and closed
     "n4 k14 K4 t16 w14 W2 r8 z8 c4 g4 x8 h4 e6 d1",
     // mappings
-    "n2 k6 m30 u4 w16 z4 g5 c5 x3 y2 i3 r2 a2 t2",
+    "n2 k8 m14 u4 w20 z6 g6 c6 x4 y2 i3 r4 a2 t3",
     // pins
     "n2 w6 c6 p30 v20 x4 t4 k3 d4 z4 y3 i1 e1 q2",
     // no node left
-    "n50 k12 l10 x2 a4 w6 q1",
+    "n40 k20 l6 x2 a2 w12 r4 i1 q1",
     // policies
     "n4 y20 q8 r6 w8 W2 k6 d8 h6 x4 g4 c4 z3 l2 m2 u1",
 ];
@@ -122,8 +122,8 @@ impl Generator {
             self.plan(format!("s {outside}"));
         }
         let most = match self.random.below(8) {
-            0..=3 => 8,
-            4..=6 => 64,
+            0..=2 => 8,
+            3..=6 => 64,
             _ => self.most_frames,
         };
         let frames = 1 + self.random.below(most.min(self.most_frames));
@@ -137,6 +137,9 @@ impl Generator {
         }
         if self.random.one_in(25) {
             return self.plan_recipe(pool);
+        }
+        if pool.room() < MOST_NOTICES && self.random.one_in(4) {
+            self.plan(format!("a {MOST_NOTICES}"));
         }
         let Some(letter) = self.letter() else {
             return;
@@ -165,13 +168,14 @@ impl Generator {
     /// The call once with a notice list one short, and once with just enough.
     fn plan_with_tight_room(&mut self, call: &Call, pages: u64, pool: &Pool) {
         let needed = pages * pool.state().live_mappings() as u64;
-        if needed > 0 && needed <= MOST_NOTICES {
-            self.plan(format!("a {}", needed - 1));
-            self.plan(call.line.clone());
-            self.plan(format!("a {needed}"));
+        if needed == 0 || needed > MOST_NOTICES {
+            return self.plan(call.line.clone());
         }
+        self.plan(format!("a {}", needed - 1));
         self.plan(call.line.clone());
-        if pool.room() < MOST_NOTICES || !self.random.one_in(4) {
+        self.plan(format!("a {needed}"));
+        self.plan(call.line.clone());
+        if !self.random.one_in(4) {
             self.plan(format!("a {MOST_NOTICES}"));
         }
     }
@@ -409,11 +413,11 @@ impl Generator {
     // Short runs that single random calls seldom make.
 
     fn plan_recipe(&mut self, pool: &Pool) {
-        match self.random.below(5) {
-            0 => self.plan_tower(pool),
-            1 => self.plan_grown_and_cloned(pool),
-            2 => self.plan_pins(pool),
-            3 => self.plan_mappings(pool),
+        match self.random.below(16) {
+            0..=4 => self.plan_tower(pool),
+            5..=9 => self.plan_grown_and_cloned(pool),
+            10 => self.plan_pins(pool),
+            11..=12 => self.plan_mappings(pool),
             _ => self.plan_closes(pool),
         }
     }
@@ -518,7 +522,7 @@ impl Generator {
     }
 
     fn plan_mappings(&mut self, pool: &Pool) {
-        for _ in 0..self.random.pick(&[2, 5, 70]) {
+        for _ in 0..self.random.pick(&[2, 3, 5, 8, 70]) {
             let o = self.object(pool);
             let (first, count) = (self.random.below(3), 1 + self.random.below(4));
             self.plan(format!("m {o} {first} {count}"));

@@ -118,7 +118,11 @@ impl VmMapping {
 }
 
 /// The trait of vmo/mod.rs.
-#[allow(clippy::len_without_is_empty, clippy::type_complexity)]
+#[allow(
+    clippy::len_without_is_empty,
+    clippy::mut_from_ref,
+    clippy::type_complexity
+)]
 pub trait VMObjectTrait: Sync + Send {
     fn read(&self, offset: usize, buf: &mut [u8]) -> ZxResult;
     fn write(&self, offset: usize, buf: &[u8]) -> ZxResult;
