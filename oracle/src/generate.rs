@@ -57,6 +57,13 @@ pub struct Generator {
     focus: u64,
 }
 
+/// A planned object, and its size if all goes well.
+#[derive(Clone, Copy)]
+struct Member {
+    object: usize,
+    pages: u64,
+}
+
 /// A line, and how many pages a call in range would touch, for the notices that it needs.
 struct Call {
     line: String,
@@ -122,8 +129,8 @@ impl Generator {
             self.plan(format!("s {outside}"));
         }
         let most = match self.random.below(8) {
-            0..=2 => 8,
-            3..=6 => 64,
+            0..=1 => 8,
+            2..=5 => 64,
             _ => self.most_frames,
         };
         let frames = 1 + self.random.below(most.min(self.most_frames));
@@ -414,15 +421,16 @@ impl Generator {
 
     fn plan_recipe(&mut self, pool: &Pool) {
         match self.random.below(16) {
-            0..=4 => self.plan_tower(pool),
-            5..=9 => self.plan_grown_and_cloned(pool),
-            10 => self.plan_pins(pool),
-            11..=12 => self.plan_mappings(pool),
+            0..=1 => self.plan_tower(pool),
+            2..=8 => self.plan_family(pool),
+            9..=11 => self.plan_grown_and_cloned(pool),
+            12 => self.plan_pins(pool),
+            13 => self.plan_mappings(pool),
             _ => self.plan_closes(pool),
         }
     }
 
-    /// Clones of one object, or of the newest child, then calls on a few of them.
+    /// Many clones of one object, or each of the one before, then calls on them.
     fn plan_tower(&mut self, pool: &Pool) {
         let mut free = free_nodes(pool);
         if free.is_empty() || !self.allows(b'k') {
@@ -433,35 +441,102 @@ impl Generator {
         let mut at = free.remove(0);
         self.plan(format!("n {pages}"));
         self.plan(format!("w {at} 0 {depth} {}", pages * PAGE));
-        let mut members = vec![at];
+        let mut members = vec![Member { object: at, pages }];
         for _ in 0..depth {
             self.plan(format!("k {at} 0 {pages}"));
             if free.len() < 2 {
                 break;
             }
-            members.push(free[0]);
+            let object = free[0];
+            members.push(Member { object, pages });
             if on_newest {
-                at = free[0];
+                at = object;
             }
             free.drain(..2);
         }
         for _ in 0..self.random.below(12) {
-            let o = self.random.pick(&members);
-            let page = self.random.below(pages);
-            let byte = self.random.below(256);
-            let line = match self.random.below(8) {
-                0..=2 => format!("w {o} {} {byte} {PAGE}", page * PAGE),
-                3 => format!("r {o} 0 {}", pages * PAGE),
-                4 => format!("z {o} {} {PAGE}", page * PAGE),
-                5 => format!("g {o} {page} 1"),
-                6 => format!("x {o}"),
-                _ => format!("e {o} 0 {pages}"),
-            };
-            self.plan(line);
+            self.plan_member_call(&mut members, true);
         }
     }
 
-    /// As P6 and P7 of document 01: a child grown past its window and cloned, then used there.
+    /// A family of clones with windows of their own, written, resized and mapped in between, then
+    /// calls on its members, closes among them.
+    fn plan_family(&mut self, pool: &Pool) {
+        let mut free = free_nodes(pool);
+        if free.is_empty() || !self.allows(b'k') {
+            return;
+        }
+        let pages = 2 + self.random.below(3);
+        let object = free.remove(0);
+        let mut members = vec![Member { object, pages }];
+        let all_mapped = self.random.one_in(3);
+        self.plan(format!("n {pages}"));
+        self.plan(format!("W {object} 0 1 {} 1", pages * PAGE));
+        if all_mapped {
+            self.plan(format!("m {object} 0 {pages}"));
+        }
+        for _ in 0..2 + self.random.below(6) {
+            if free.len() < 2 {
+                break;
+            }
+            let of = self.random.pick(&members);
+            let first = self.random.below(of.pages + 1);
+            let pages = self.random.below(of.pages - first + 1);
+            self.plan(format!("k {} {first} {pages}", of.object));
+            let object = free[0];
+            members.push(Member { object, pages });
+            free.drain(..2);
+            if all_mapped || self.random.one_in(4) {
+                let first = self.random.below(2);
+                self.plan(format!("m {object} {first} {}", pages.max(1)));
+            }
+            for _ in 0..self.random.below(3) {
+                self.plan_member_call(&mut members, false);
+            }
+        }
+        for _ in 0..4 + self.random.below(12) {
+            self.plan_member_call(&mut members, true);
+        }
+        for Member { object, pages } in members {
+            self.plan(format!("e {object} 0 {pages}"));
+        }
+    }
+
+    /// A call inside the range of a member.
+    fn plan_member_call(&mut self, members: &mut Vec<Member>, may_close: bool) {
+        if members.is_empty() {
+            return;
+        }
+        let i = self.random.below(members.len() as u64) as usize;
+        let Member { object: o, pages } = members[i];
+        let page = self.random.below(pages.max(1));
+        let (at, to_end) = (page * PAGE, pages.saturating_sub(page) * PAGE);
+        let one = PAGE.min(to_end);
+        let byte = self.random.below(256);
+        let line = match self.random.below(14) {
+            0..=2 => format!("w {o} {at} {byte} {one}"),
+            3 => format!("W {o} {at} {byte} {to_end} 1"),
+            4 => format!("r {o} 0 {}", pages * PAGE),
+            5 => format!("r {o} {at} {one}"),
+            6 => format!("z {o} {at} {one}"),
+            7 => format!("z {o} {at} {to_end}"),
+            8 => format!("z {o} {at} {}", one / 2),
+            9 => format!("g {o} {page} 1"),
+            10 => format!("e {o} 0 {pages}"),
+            11 => {
+                members[i].pages = self.random.below(pages + 3);
+                format!("t {o} {}", members[i].pages * PAGE)
+            }
+            _ if may_close => {
+                members.remove(i);
+                format!("x {o}")
+            }
+            _ => format!("c {o} {at} {one}"),
+        };
+        self.plan(line);
+    }
+
+    /// As P6 and P7 of document 01: a child grown past its window, mostly cloned, then used there.
     fn plan_grown_and_cloned(&mut self, pool: &Pool) {
         let free = free_nodes(pool);
         if free.len() < 5 || !self.allows(b't') {
@@ -477,7 +552,9 @@ impl Generator {
         self.plan(format!("w {r} {} 9 {PAGE}", (pages - 1) * PAGE));
         self.plan(format!("k {r} {first} {count}"));
         self.plan(format!("t {x} {}", grown * PAGE));
-        self.plan(format!("k {x} 0 {cloned}"));
+        if !self.random.one_in(3) {
+            self.plan(format!("k {x} 0 {cloned}"));
+        }
         for _ in 0..2 + self.random.below(4) {
             let o = self.random.pick(&[x, x, clone, r]);
             let page = self.random.below(grown);
