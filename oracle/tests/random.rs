@@ -4,6 +4,7 @@ use oracle::generate::Generator;
 use oracle::kernel_hal::mem;
 use oracle::pool::{Answer, Code, Pool, Snapshot};
 use oracle::sound;
+use oracle::state::*;
 use oracle::trace::Trace;
 
 fn assert_sound(pool: &Pool, line: &[u8]) {
@@ -100,6 +101,31 @@ fn every_call_leaves_a_sound_pool() {
     for seed in 0..20 {
         run(seed, 3000, |_, line, _, pool| assert_sound(pool, line));
     }
+}
+
+/// Why line 904 of the source isn't reached from a fresh pool: an owner number moves only from a
+/// child to its parent, so nodes that share one stand on one parent chain.
+#[test]
+fn equal_owners_stand_on_one_chain() {
+    run(150, 20_000, |_, line, _, pool| {
+        let state = pool.state();
+        let live = |n: &usize| state.nodes[*n][KIND] != FREE;
+        for a in (0..NODES).filter(live) {
+            for b in (0..a).filter(live) {
+                let same = state.nodes[a][OWNER] == state.nodes[b][OWNER];
+                let chain = is_above(state, a, b) || is_above(state, b, a);
+                assert!(!same || chain, "after {}", String::from_utf8_lossy(line));
+            }
+        }
+    });
+}
+
+fn is_above(state: &State, above: usize, below: usize) -> bool {
+    let mut at = state.parent(below);
+    while let Some(node) = at.filter(|node| *node != above) {
+        at = state.parent(node);
+    }
+    at.is_some()
 }
 
 #[test]
