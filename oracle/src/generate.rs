@@ -8,6 +8,9 @@ use std::collections::VecDeque;
 
 const PAGE: u64 = 4096;
 
+/// The letters of all calls.
+pub const LETTERS: &str = "sanlrwWkKgcmuhfztdiqyepvx";
+
 /// What the calls of an episode are about: letters with weights.
 const STYLES: [&str; 7] = [
     // a bit of everything
@@ -48,8 +51,8 @@ const EDGES: [u64; 16] = [
 
 pub struct Generator {
     random: Random,
-    /// The letters that lines may have; none is all.
-    letters: Option<Vec<u8>>,
+    /// The letters that good lines may have.
+    letters: Vec<u8>,
     most_frames: u64,
     planned: VecDeque<String>,
     style: Vec<(u8, u64)>,
@@ -71,10 +74,10 @@ struct Call {
 }
 
 impl Generator {
-    pub fn new(seed: u64, letters: Option<&str>, most_frames: u64) -> Self {
+    pub fn new(seed: u64, letters: &str, most_frames: u64) -> Self {
         Generator {
             random: Random::new(seed),
-            letters: letters.map(|text| text.bytes().collect()),
+            letters: letters.bytes().collect(),
             most_frames,
             planned: VecDeque::new(),
             style: Vec::new(),
@@ -91,18 +94,17 @@ impl Generator {
         while self.planned.is_empty() {
             if self.left_in_episode == 0 {
                 self.begin_episode();
+            } else {
+                self.left_in_episode -= 1;
+                self.plan_step(pool);
             }
-            self.left_in_episode -= 1;
-            self.plan_step(pool);
         }
         let line = self.planned.pop_front();
         line.expect("a line is planned").into_bytes()
     }
 
     fn allows(&self, letter: u8) -> bool {
-        self.letters
-            .as_ref()
-            .is_none_or(|all| all.contains(&letter))
+        self.letters.contains(&letter)
     }
 
     fn plan(&mut self, line: String) {
@@ -619,9 +621,7 @@ impl Generator {
 
     /// A line that the reader must refuse.
     fn bad_line(&mut self) -> Vec<u8> {
-        let whole = self.random.pick(&STYLES[..1]);
-        let letters: Vec<u8> = whole.split(' ').map(|w| w.as_bytes()[0]).collect();
-        let letter = self.random.pick(&letters) as char;
+        let letter = self.random.pick(LETTERS.as_bytes()) as char;
         let number = self.random.pick(&EDGES);
         let text = match self.random.below(20) {
             0 => String::new(),

@@ -1,6 +1,6 @@
 //! A call over many pages against the same call made block by block, as the source's loops go.
 
-use oracle::generate::Generator;
+use oracle::generate::{Generator, LETTERS};
 use oracle::lines::{fields, TRACE};
 use oracle::pool::{Answer, Code, Pool};
 use oracle::trace::Trace;
@@ -70,7 +70,7 @@ fn one_call_is_its_blocks_in_order() {
     let mut compared = [0; 12];
     for seed in 400..406 {
         let mut trace = Trace::default();
-        let mut generator = Generator::new(seed, None, 64);
+        let mut generator = Generator::new(seed, LETTERS, 64);
         for _ in 0..6000 {
             let line = generator.line(trace.pool());
             let before = trace.pool().snapshot();

@@ -1,6 +1,6 @@
 //! Random traces on the source: what every call must leave behind.
 
-use oracle::generate::Generator;
+use oracle::generate::{Generator, LETTERS};
 use oracle::kernel_hal::mem;
 use oracle::pool::{Answer, Code, Pool, Snapshot};
 use oracle::sound;
@@ -16,7 +16,7 @@ fn assert_sound(pool: &Pool, line: &[u8]) {
 /// Runs a random trace; `each` gets the pool before, the line, its answer and the pool after.
 fn run(seed: u64, calls: usize, each: impl Fn(&Snapshot, &[u8], Option<&Answer>, &Pool)) {
     let mut trace = Trace::default();
-    let mut generator = Generator::new(seed, None, 64);
+    let mut generator = Generator::new(seed, LETTERS, 64);
     for _ in 0..calls {
         let line = generator.line(trace.pool());
         let before = trace.pool().snapshot();
@@ -77,7 +77,7 @@ fn hashes_by_definition(snapshot: &Snapshot) -> [u64; 3] {
 #[test]
 fn an_answer_line_is_as_defined() {
     let mut trace = Trace::default();
-    let mut generator = Generator::new(50, None, 64);
+    let mut generator = Generator::new(50, LETTERS, 64);
     for _ in 0..3000 {
         let line = generator.line(trace.pool());
         let text = trace.answer(&line);
@@ -153,7 +153,7 @@ fn refused_calls_change_nothing() {
 fn a_rebuilt_pool_answers_alike() {
     let (seed, calls) = (200, 6000);
     let mut trace = Trace::default();
-    let mut generator = Generator::new(seed, None, 64);
+    let mut generator = Generator::new(seed, LETTERS, 64);
     let mut answers = Vec::new();
     for _ in 0..calls {
         let line = generator.line(trace.pool());
@@ -177,7 +177,7 @@ fn a_rebuilt_pool_answers_alike() {
 #[test]
 fn peek_is_what_a_read_gives() {
     let mut trace = Trace::default();
-    let mut generator = Generator::new(300, None, 64);
+    let mut generator = Generator::new(300, LETTERS, 64);
     for _ in 0..4000 {
         let line = generator.line(trace.pool());
         trace.call(&line);
