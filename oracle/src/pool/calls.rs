@@ -21,8 +21,8 @@ impl Pool {
         refuse_if(self.owners_used_up(), Code::NoNode)?;
         let object = VMObjectPaged::new(pages as usize);
         self.seat_leaf(number, object);
-        self.state.next_owner += 1;
         self.look();
+        self.count_owner(number);
         Ok(number as u64)
     }
 
@@ -58,8 +58,8 @@ impl Pool {
         self.addresses[hidden_seat] = hidden.as_ptr() as usize;
         self.slots[hidden_seat] = Slot::Hidden(hidden);
         self.seat_leaf(child_seat, child);
-        self.state.next_owner += 1;
         self.look();
+        self.count_owner(child_seat);
         Ok(child_seat as u64)
     }
 

@@ -19,6 +19,12 @@ impl Pool {
         self.owner_base = tree::use_up_owner().wrapping_sub(given);
     }
 
+    /// The new leaf must have the owner number that was next.
+    pub(super) fn count_owner(&mut self, leaf: usize) {
+        assert_eq!(self.state.nodes[leaf][OWNER], self.state.next_owner);
+        self.state.next_owner += 1;
+    }
+
     /// Reads the tables out of the real objects. A hidden node that nobody holds has gone.
     pub(super) fn look(&mut self) {
         for n in 0..NODES {
