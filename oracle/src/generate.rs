@@ -144,7 +144,7 @@ impl Generator {
             let pages = self.pages();
             return self.plan(format!("n {pages}"));
         }
-        if self.random.one_in(25) {
+        if self.random.one_in(16) {
             return self.plan_recipe(pool);
         }
         if pool.room() < MOST_NOTICES && self.random.one_in(4) {
@@ -515,7 +515,7 @@ impl Generator {
         let (at, to_end) = (page * PAGE, pages.saturating_sub(page) * PAGE);
         let one = PAGE.min(to_end);
         let byte = self.random.below(256);
-        let line = match self.random.below(14) {
+        let line = match self.random.below(16) {
             0..=2 => format!("w {o} {at} {byte} {one}"),
             3 => format!("W {o} {at} {byte} {to_end} 1"),
             4 => format!("r {o} 0 {}", pages * PAGE),
@@ -527,6 +527,15 @@ impl Generator {
             10 => format!("e {o} 0 {pages}"),
             11 => {
                 members[i].pages = self.random.below(pages + 3);
+                format!("t {o} {}", members[i].pages * PAGE)
+            }
+            12..=13 => {
+                let grown = pages + 1 + self.random.below(2);
+                self.plan(format!("t {o} {}", grown * PAGE));
+                if self.random.one_in(2) {
+                    self.plan(format!("w {o} {} {byte} {PAGE}", pages * PAGE));
+                }
+                members[i].pages = self.random.below(grown);
                 format!("t {o} {}", members[i].pages * PAGE)
             }
             _ if may_close => {
