@@ -122,7 +122,11 @@ impl Generator {
         self.style = weighted
             .filter(|(letter, _)| self.allows(*letter))
             .collect();
-        self.left_in_episode = 20 + self.random.below(230);
+        self.left_in_episode = if self.random.one_in(5) {
+            20 + self.random.below(230)
+        } else {
+            5 + self.random.below(40)
+        };
         self.focus = 0;
         if self.random.one_in(6) {
             let outside = self
@@ -194,7 +198,7 @@ impl Generator {
     /// Mostly a live object, half the time the same one for a while.
     fn object(&mut self, pool: &Pool) -> u64 {
         let leaves = pool.state().leaves();
-        if leaves.is_empty() || self.random.one_in(25) {
+        if leaves.is_empty() || self.random.one_in(16) {
             return self.odd_object(pool);
         }
         if self.random.one_in(8) || !leaves.contains(&(self.focus as usize)) {
