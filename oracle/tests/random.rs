@@ -103,13 +103,18 @@ fn every_call_leaves_a_sound_pool() {
     }
 }
 
-/// Why line 904 of the source isn't reached from a fresh pool: an owner number moves only from a
-/// child to its parent, so nodes that share one stand on one parent chain.
+/// Why line 904 of the source isn't reached from a fresh pool: a hidden node's owner is a child's,
+/// and nodes that share an owner stand on one parent chain.
 #[test]
 fn equal_owners_stand_on_one_chain() {
     run(150, 20_000, |_, line, _, pool| {
         let state = pool.state();
         let live = |n: &usize| state.nodes[*n][KIND] != FREE;
+        for words in state.nodes.iter().filter(|words| words[KIND] == HIDDEN) {
+            let child_owner = |side: usize| state.nodes[words[side] as usize - 1][OWNER];
+            let owners = [child_owner(LEFT), child_owner(RIGHT)];
+            assert!(owners.contains(&words[OWNER]));
+        }
         for a in (0..NODES).filter(live) {
             for b in (0..a).filter(live) {
                 let same = state.nodes[a][OWNER] == state.nodes[b][OWNER];
