@@ -3,14 +3,13 @@ use node::Node;
 ghost use mathlib.Core.Path.{_≡_};
 ghost use Prim.Native.Nat.{_≤_};
 ghost use Rattle.logic.specs.Below.{allBelow};
-ghost use Rattle.sound.specs.Tree.{numbersOk, linkedOf, linksOk, nodeOk, nodesOk, linksTo, stepTo, noneAt, chainsEnd, startsSum, startsOk};
+ghost use Rattle.sound.specs.Tree.{blankNode, numbersOk, linkedOf, linksOk, nodeOk, nodesOk, linksTo, stepTo, noneAt, chainsEnd, startsSum, startsOk};
 
-// The numbers of one record.
-fn numbers_ok(n: Node, next: u32) -> bool
-    ensures { λ r. ⌜ r ≡ numbersOk n next ⌝ }
+// Nothing after the kind.
+fn is_blank(n: Node) -> bool
+    ensures { λ r. ⌜ r ≡ blankNode n ⌝ }
 {
-    let live = n.kind != Node::FREE;
-    let blank = (n.parent == 0)
+    (n.parent == 0)
         & (n.left == 0)
         & (n.right == 0)
         & (n.parent_offset == 0)
@@ -18,9 +17,16 @@ fn numbers_ok(n: Node, next: u32) -> bool
         & (n.size == 0)
         & (n.owner == 0)
         & (n.cache_policy == 0)
-        & (n.pin_count == 0);
+        & (n.pin_count == 0)
+}
+
+// The numbers of one record.
+fn numbers_ok(n: Node, next: u32) -> bool
+    ensures { λ r. ⌜ r ≡ numbersOk n next ⌝ }
+{
+    let live = n.kind != Node::FREE;
     (n.kind <= 3)
-        & (live | blank)
+        & (live | is_blank(n))
         & (n.parent_offset <= n.parent_limit)
         & (n.parent_limit as u64 <= n.parent_offset as u64 + n.size as u64)
         & (n.size <= 64)
@@ -57,6 +63,9 @@ fn node_ok(nodes: &[u32], node: u32, next: u32) -> bool
     ensures { λ r. ⌜ r ≡ nodeOk (now (nodes .entry)) next node ⌝ }
 {
     let n = tables::node_at(nodes, node);
+    if n.kind == Node::FREE {
+        return is_blank(n) & (1 <= next);
+    }
     numbers_ok(n, next) & links_ok(nodes, node, n)
 }
 
@@ -112,13 +121,22 @@ fn none_left(up: [u32; 65]) -> bool
     ok
 }
 
-// No node has a 64th parent.
+// No node has a 64th parent. Most trees are shallow, so the first steps look whether all are done.
 pub fn chains_end(nodes: &[u32]) -> bool
     ensures { λ r. ⌜ r ≡ chainsEnd (now (nodes .entry)) ⌝ }
 {
     let up1 = parents(nodes);
+    if none_left(up1) {
+        return true;
+    }
     let up2 = step_up(up1);
+    if none_left(up2) {
+        return true;
+    }
     let up4 = step_up(up2);
+    if none_left(up4) {
+        return true;
+    }
     let up8 = step_up(up4);
     let up16 = step_up(up8);
     let up32 = step_up(up16);

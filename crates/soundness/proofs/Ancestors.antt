@@ -9,7 +9,7 @@ use lib.ListN.{length, getD, set, length-set, List·getD-eq-default}
 use lib.Seq.{getD-set-same, getD-set-other}
 use Rattle.tables.specs.Tables.{wordOf}
 use Rattle.sound.specs.Tree.{linkedOf, linksTo, stepTo, stepsUp, noneAt, chainsEnd}
-use Rattle.soundness.proofs.Means.{Means, says, equal, less, split, every}
+use Rattle.logic.proofs.Means.{Means, says, equal, less, split, every}
 use Rattle.soundness.proofs.Records.{linked-word, no-link, word-out}
 
 -- a table of m places, made by storing h k at place k + c for k = 0, 1, ..

@@ -11,7 +11,7 @@ use Rattle.tables.specs.Tables.{nodeOf}
 use Rattle.sound.specs.Tree.{linkedOf, chainsEnd}
 use Rattle.sound.specs.Facts.{Ends}
 use Rattle.sound.specs.Facts.Ends.{none, up}
-use Rattle.soundness.proofs.Means.{Means, says, equal, less, split}
+use Rattle.logic.proofs.Means.{Means, says, equal, less, split}
 use Rattle.soundness.proofs.Records.{node-out, linked}
 use Rattle.soundness.proofs.Sums.{sum-most, sum-less}
 use Rattle.soundness.proofs.Ancestors.{above, above-none, above-add, chains-mean}

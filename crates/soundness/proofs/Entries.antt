@@ -15,7 +15,7 @@ use Rattle.node.specs.Node.{hiddenOf}
 use Rattle.tables.specs.Tables.{nodeOf, entryOf, slotAt}
 use Rattle.sound.specs.Rows.{entryOk, entryOkAt, rowOk, pinsAt, rowPins, rowTest, rowsOk}
 use Rattle.sound.specs.Facts.{pinsOf}
-use Rattle.soundness.proofs.Means.{Means, says, equal, most, less, then, both, split, nay, either, unless, choose, both-two, every}
+use Rattle.logic.proofs.Means.{Means, says, equal, most, less, then, both, split, nay, either, unless, choose, both-two, every}
 use Rattle.soundness.proofs.Records.{entry-past, entry-out}
 use Rattle.soundness.proofs.Sums.{sum-same, sum-most}
 use Rattle.soundness.proofs.Slots.{parts, holds, no-frame, absent, tag-there, tag-most}
@@ -134,7 +134,7 @@ module _ (N P : List ℕ) (F : ℕ) where
   row-means : (n : ℕ) → Means (rowTest N P F n) (Row N P F n)
   unfolding rowTest rowOk entryOkAt rowPins pinsAt slotAt
   row-means n =
-      then (every (entryOkAt (nodeOf N n) F P n) 64
+      then (every (entryOkAt (hiddenOf (nodeOf N n)) (nodeOf N n .size) F P n) 64
       (λ i l. none-ok (nodeOf N n) F i (entryOf P n i) (entry-past P n i l))
       (λ i. entry-means (nodeOf N n) F i (entryOf P n i)))
       (λ f.

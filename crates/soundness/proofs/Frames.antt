@@ -10,7 +10,7 @@ use Rattle.entry.specs.Entry.{stateOf}
 use Rattle.tables.specs.Tables.{entryOf, slotAt}
 use Rattle.sound.specs.Rows.{rowsOk, markRows, frameOk, framesOk}
 use Rattle.sound.specs.Facts.{Holds, Stands, Entries}
-use Rattle.soundness.proofs.Means.{Means, says, equal, most, less, both, split, below}
+use Rattle.logic.proofs.Means.{Means, says, equal, most, less, both, split, below}
 use Rattle.soundness.proofs.Records.{entry-is, entry-past, entry-out}
 use Rattle.soundness.proofs.Slots.{parts, holds}
 use Rattle.soundness.proofs.Entries.{Row, rows-mean}

@@ -1,4 +1,3 @@
-pub mod Means
 pub mod Records
 pub mod Nodes
 pub mod Sums

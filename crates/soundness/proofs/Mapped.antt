@@ -11,7 +11,7 @@ use Rattle.tables.specs.Tables.{nodeOf, mappingOf, mappingBy}
 use Rattle.sound.specs.Rows.{markRun}
 use Rattle.sound.specs.Maps.{mappingOk, blankOf, numberOf, placeOk, placesOk, onceAt, mappingsOk}
 use Rattle.sound.specs.Facts.{LiveAt, Mappings}
-use Rattle.soundness.proofs.Means.{Means, says, itself, equal, most, less, both, split, picked, below, every}
+use Rattle.logic.proofs.Means.{Means, says, itself, equal, most, less, both, split, picked, below, every}
 use Rattle.soundness.proofs.Records.{mapping-out}
 use Rattle.soundness.proofs.Marks.{Tally, Shows, run-tally}
 

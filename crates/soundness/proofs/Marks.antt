@@ -9,7 +9,7 @@ use lib.Seq.{getD-set-same, getD-set-other}
 use borrow.Author.Tests.{eq-eqb, ne-eqb}
 use Rattle.tables.specs.Tables.{entryOf}
 use Rattle.sound.specs.Rows.{moreOf, markEntry, markRun, markRows}
-use Rattle.soundness.proofs.Means.{equal, split}
+use Rattle.logic.proofs.Means.{equal, split}
 use Rattle.soundness.proofs.Records.{entry-is}
 
 -- what a mark tells of the places below k

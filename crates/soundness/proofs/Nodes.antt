@@ -7,10 +7,11 @@ use Prim.Native.Nat.{ℕ, _+_, _≤_, _<_}
 use lib.ListN.{length}
 use borrow.Author.Tests.{lt-ltb}
 use Rattle.node.specs.declared.Node.{Node}
-use Rattle.node.specs.Node.{nodeBy, freeNode}
+use Rattle.node.specs.Node.{freeNode}
+use Rattle.sound.proofs.Laws.{blank-means}
 use Rattle.tables.specs.Tables.{nodeOf}
-use Rattle.sound.specs.Tree.{blankNode, numbersOk, linkedOf, namedOk, belowOk, linksOk, nodeOk, nodesOk}
-use Rattle.soundness.proofs.Means.{Means, equal, most, less, both, nay, either, unless, implies, choose, every}
+use Rattle.sound.specs.Tree.{numbersOk, linkedOf, namedOk, belowOk, linksOk, nodeOk, nodesOk}
+use Rattle.logic.proofs.Means.{Means, equal, most, less, both, nay, either, unless, implies, choose, every}
 use Rattle.soundness.proofs.Records.{node-out}
 
 -- the record of a free node
@@ -18,16 +19,6 @@ use Rattle.soundness.proofs.Records.{node-out}
 free-ok : (N : List ℕ) (next : ℕ) → length N ≡ 1024 → 1 ≤ next → (n : ℕ) → 64 ≤ n → nodeOk N next n ≡ true
 unfolding nodeOk numbersOk linksOk
 free-ok N next len pos n l = rw (node-out N len n l, lt-ltb 0 next pos)
-
-blank-by : (k p l r s e z o c n : ℕ) → k ≡ 0 → p ≡ 0 → l ≡ 0 → r ≡ 0 → s ≡ 0 → e ≡ 0 → z ≡ 0 → o ≡ 0 → c ≡ 0 → n ≡ 0 → nodeBy k p l r s e z o c n ≡ freeNode
-blank-by k p l r s e z o c n h₀ h₁ h₂ h₃ h₄ h₅ h₆ h₇ h₈ h₉ = cc
-
-blank-means : (r : Node) → r .kind ≡ 0 → Means (blankNode r) (r ≡ freeNode)
-blank-means r z =
-    let m =
-    both (both (both (both (both (both (both (both (equal (r .parent) 0) (equal (r .left) 0)) (equal (r .right) 0)) (equal (r .«parent_offset») 0))
-    (equal (r .«parent_limit») 0)) (equal (r .size) 0)) (equal (r .owner) 0)) (equal (r .«cache_policy») 0)) (equal (r .«pin_count») 0) in
-    record { fact = λ h. let ((((((((a, b), c), d), e), f), g), i), j) = m .fact h in blank-by _ _ _ _ _ _ _ _ _ _ z a b c d e f g i j; test = λ e. rw e }
 
 -- the words of a record, all but its links
 

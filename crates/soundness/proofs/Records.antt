@@ -12,7 +12,7 @@ use Rattle.node.specs.declared.Node.{Node}
 use Rattle.node.specs.Node.{freeNode}
 use Rattle.tables.specs.Tables.{wordOf, recordOf, nodeOf, entryOf, mappingOf, mappingBy}
 use Rattle.sound.specs.Tree.{linkedOf}
-use Rattle.soundness.proofs.Means.{less, split}
+use Rattle.logic.proofs.Means.{less, split}
 
 -- what a link to node n reads there
 

@@ -6,7 +6,7 @@ use lib.ListN.{length, getD}
 use Rattle.tables.specs.Pool.{Pool}
 use Rattle.sound.specs.Sound.{lengthsOk, tablesOk, sound}
 use Rattle.sound.specs.Facts.{Lengths, Sound}
-use Rattle.soundness.proofs.Means.{Means, says, equal, most, both, both-two, guard}
+use Rattle.logic.proofs.Means.{Means, says, equal, most, both, both-two, guard}
 use Rattle.soundness.proofs.Trees.{tree-means}
 use Rattle.soundness.proofs.Frames.{entries-mean}
 use Rattle.soundness.proofs.Mapped.{mappings-mean}

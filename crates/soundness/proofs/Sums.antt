@@ -3,7 +3,7 @@ use mathlib.Core.Path.{_≡_, refl, ap₂}
 use Prim.Native.Nat.{ℕ, zero, suc, _+_, _*_, _≤_, _<_}
 use native.Mathlib.Omega.{arith}
 use Rattle.logic.specs.Below.{sumBelow}
-use Rattle.soundness.proofs.Means.{equal, split}
+use Rattle.logic.proofs.Means.{equal, split}
 
 pub sum-same : (f g : ℕ → ℕ) (m : ℕ) → ((j : ℕ) → f j ≡ g j) → sumBelow f m ≡ sumBelow g m
 unfolding sumBelow

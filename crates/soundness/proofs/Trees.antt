@@ -14,7 +14,7 @@ use Rattle.tables.specs.Tables.{nodeOf}
 use Rattle.sound.specs.Tree.{linkedOf, nodesOk, chainsEnd, startOf, startsSum, startsOk}
 use Rattle.sound.specs.Sound.{headOk}
 use Rattle.sound.specs.Facts.{Hidden, ChildOf, Names, Tree}
-use Rattle.soundness.proofs.Means.{Means, says, equal, most, less, then, both, split}
+use Rattle.logic.proofs.Means.{Means, says, equal, most, less, then, both, split}
 use Rattle.soundness.proofs.Records.{node-out, start-is, linked, no-link}
 use Rattle.soundness.proofs.Nodes.{Numbers, Links, nodes-mean}
 use Rattle.soundness.proofs.Sums.{sum-same}

@@ -1,4 +1,3 @@
-use mathlib.Core.Path.{refl}
 use Rattle.sound.specs.Tree.{numbersOk}
 use borrow.Author.Needs.{needs}
 use Rattle.sound.proofs.tree.numbers_ok.Statement.{statement}
@@ -6,7 +5,9 @@ use Rattle.sound.proofs.tree.numbers_ok.Tie as tie
 
 returns : tie.Need-returns
 unfolding numbersOk
-returns c = refl
+returns c = rw (← (c .before .before .before .before .before .before .before .is-blank .ensures))
 
 pub numbers-ok-spec : {M : Type 1} → statement M
-numbers-ok-spec = tie.close (tie.spec (λ c. search needs) (λ c. search needs) (λ c. search needs) (λ c. search needs) returns)
+numbers-ok-spec =
+    tie.close
+    (tie.spec (λ c κs. search needs) (λ c. search needs) (λ c. search needs) (λ c. search needs) (λ c. search needs) returns)
