@@ -30,13 +30,6 @@ pinsAt pages n i = entryOf pages n i / 16384
 unfoldable pub rowPins : List ℕ → ℕ → ℕ
 rowPins pages n = sumBelow (pinsAt pages n) 64
 
--- a row so far, with one entry more
-abbrev pub rowOf : Bool → ℕ → Row
-rowOf b p = record { ok = b; pins = p }
-
-unfoldable pub rowNext : Bool → ℕ → ℕ → ℕ → ℕ → Row → Row
-rowNext hidden size F i e row = rowOf (row .ok && entryOk hidden size F i e) (row .pins + e / 16384)
-
 abbrev pub oneIf : ℕ → ℕ
 oneIf e = pick (eqb e 0) 0 1
 
@@ -45,6 +38,18 @@ presentAt pages n i = oneIf (entryOf pages n i)
 
 unfoldable pub rowCount : List ℕ → ℕ → ℕ
 rowCount pages n = sumBelow (presentAt pages n) 64
+
+-- a row so far, with one entry more; and after i entries
+abbrev pub rowOf : Bool → ℕ → ℕ → Row
+rowOf b p s = record { ok = b; pins = p; seen = s }
+
+unfoldable pub rowNext : Bool → ℕ → ℕ → ℕ → ℕ → Row → Row
+rowNext hidden size F i e row =
+    rowOf (row .ok && entryOk hidden size F i e) (row .pins + e / 16384) (row .seen + oneIf e)
+
+unfoldable pub walked : Bool → ℕ → ℕ → List ℕ → ℕ → ℕ → Row
+walked hidden size F pages n i =
+    rowOf (allBelow (entryOkAt hidden size F pages n) i) (sumBelow (pinsAt pages n) i) (sumBelow (presentAt pages n) i)
 
 -- the row's entries, and no more pins than the node's count
 unfoldable pub rowTest : List ℕ → List ℕ → ℕ → ℕ → Bool

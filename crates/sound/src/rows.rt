@@ -2,13 +2,14 @@
 ghost use mathlib.Core.Path.{_≡_};
 ghost use Prim.Native.Nat.{_≤_, _<_};
 ghost use lib.ListN.{length};
-ghost use Rattle.sound.specs.Rows.{entryOk, rowOf, rowNext, rowOk, rowPins, rowCount, rowTest, moreOf, markEntry, markRun, markRows, rowsOk, framesOk, oneIf};
+ghost use Rattle.sound.specs.Rows.{entryOk, rowNext, walked, rowCount, rowTest, moreOf, markEntry, markRun, markRows, rowsOk, framesOk, oneIf};
 ghost use Rattle.tables.specs.Tables.{entryOf};
 
-// A row so far: its entries are good, and their pins add up to this.
+// A row so far: its entries are good, their pins add up to this, and so many are there.
 struct Row {
     ok: bool,
     pins: u32,
+    seen: u32,
 }
 
 fn entry_ok(e: u32, page: u32, hidden: bool, size: u32, frames: usize) -> bool
@@ -77,7 +78,7 @@ fn entry_step(
     frames: usize,
     row: Row,
 ) -> Row
-    requires { ⌜ row .pins ≤ 16777152 ⌝ }
+    requires { ⌜ (row .pins ≤ 16777152) × (row .seen < 64) ⌝ }
     ensures { λ r. ⌜ (r ≡ rowNext hidden size frames page e row) × (now (marks .exit) ≡ markEntry (now (marks .entry)) e) ⌝ }
 {
     if e == 0 {
@@ -87,9 +88,11 @@ fn entry_step(
     Row {
         ok: row.ok & entry_ok(e, page, hidden, size, frames),
         pins: row.pins + e / 16384,
+        seen: row.seen + 1,
     }
 }
 
+// The walk ends with the row's last entry, so that short and empty rows cost little.
 fn walk_row(
     pages: &[u32],
     node: u32,
@@ -99,27 +102,29 @@ fn walk_row(
     marks: &mut [u8],
 ) -> Row
     requires { ⌜ (length (now pages) ≡ 4096) × (node < 64) ⌝ }
-    ensures { λ r. ⌜ (r ≡ rowOf (rowOk hidden size frames (now (pages .entry)) node) (rowPins (now (pages .entry)) node))
+    ensures { λ r. ⌜ (r ≡ walked hidden size frames (now (pages .entry)) node 64)
         × (now (marks .exit) ≡ markRun (entryOf (now (pages .entry)) node) 64 (now (marks .entry))) ⌝ }
 {
     let a = node as usize * 64;
-    let mut row = Row { ok: true, pins: 0 };
+    let count = row_count(pages, node);
+    let mut row = Row {
+        ok: true,
+        pins: 0,
+        seen: 0,
+    };
     let mut i: u32 = 0;
-    while i < 64 {
-        row = entry_step(marks, pages[a + i as usize], i, hidden, size, frames, row);
+    while row.seen < count {
+        let e = pages[a + i as usize];
+        row = entry_step(marks, e, i, hidden, size, frames, row);
         i += 1;
     }
     row
 }
 
-// A row without entries needs no look at each.
 fn row_test(nodes: &[u32], pages: &[u32], node: u32, frames: usize, marks: &mut [u8]) -> bool
     requires { ⌜ (length (now pages) ≡ 4096) × (node < 64) ⌝ }
     ensures { λ r. ⌜ (r ≡ rowTest (now (nodes .entry)) (now (pages .entry)) frames node) × (now (marks .exit) ≡ markRun (entryOf (now (pages .entry)) node) 64 (now (marks .entry))) ⌝ }
 {
-    if row_count(pages, node) == 0 {
-        return true;
-    }
     let n = tables::node_at(nodes, node);
     let row = walk_row(pages, node, n.is_hidden(), n.size, frames, marks);
     row.ok & (row.pins <= n.pin_count)

@@ -8,7 +8,7 @@ use lib.ListN.{length}
 use borrow.Author.Tests.{lt-ltb}
 use Rattle.node.specs.declared.Node.{Node}
 use Rattle.node.specs.Node.{freeNode}
-use Rattle.sound.proofs.Laws.{blank-means}
+use Rattle.sound.proofs.TreeLaws.{blank-means}
 use Rattle.tables.specs.Tables.{nodeOf}
 use Rattle.sound.specs.Tree.{numbersOk, linkedOf, namedOk, belowOk, linksOk, nodeOk, nodesOk}
 use Rattle.logic.proofs.Means.{Means, equal, most, less, both, nay, either, unless, implies, choose, every}

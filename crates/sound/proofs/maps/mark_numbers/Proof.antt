@@ -4,7 +4,7 @@ use native.Mathlib.Omega.{arith}
 use lib.ListN.{length}
 use Rattle.sound.specs.Maps.{numberOf}
 use Rattle.sound.specs.Rows.{markRun}
-use Rattle.sound.proofs.Laws.{run-next}
+use Rattle.sound.proofs.RowLaws.{run-next}
 use borrow.Author.Needs.{needs}
 use Rattle.sound.proofs.maps.mark_numbers.Statement.{statement}
 use Rattle.sound.proofs.maps.mark_numbers.Tie as tie

@@ -1,5 +1,5 @@
 use Rattle.sound.specs.Maps.{placeOk, blankOf}
-use Rattle.sound.proofs.Laws.{place-blank, place-held}
+use Rattle.sound.proofs.MapLaws.{place-blank, place-held}
 use borrow.Author.Needs.{needs}
 use Rattle.sound.proofs.maps.place_ok.Statement.{statement}
 use Rattle.sound.proofs.maps.place_ok.Tie as tie

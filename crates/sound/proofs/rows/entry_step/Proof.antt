@@ -1,6 +1,4 @@
-use mathlib.Core.Path.{_≡_}
-use Rattle.sound.specs.Rows.{rowNext}
-use Rattle.sound.proofs.Laws.{row-same, mark-none}
+use Rattle.sound.proofs.RowLaws.{row-same, row-more, mark-none}
 use borrow.Author.Needs.{needs}
 use Rattle.sound.proofs.rows.entry_step.Statement.{statement}
 use Rattle.sound.proofs.rows.entry_step.Tie as tie
@@ -9,10 +7,9 @@ returns : tie.Need-returns
 returns c = (row-same _ _ _ _ _ _ (c .if1 .taken), mark-none _ _ (c .if1 .taken))
 
 returns-2 : tie.Need-returns-2
-unfolding rowNext
-returns-2 c = (rw (← (c .before .before .entry-ok .ensures)), c .before .before .before .before .before .mark-entry .ensures)
+returns-2 c = (row-more _ _ _ _ _ _ (c .before .before .before .before .before .before .before .before .if1 .left) (c .before .before .before .entry-ok .ensures), c .before .before .before .before .before .before .mark-entry .ensures)
 
 pub entry-step-spec : {M : Type 1} → statement M
 entry-step-spec =
     tie.close
-    (tie.spec returns (λ c κs. search needs) (λ c κs. search needs) (λ c. search needs) (λ c. search needs) returns-2)
+    (tie.spec returns (λ c κs. search needs) (λ c κs. search needs) (λ c. search needs) (λ c. search needs) (λ c. search needs) returns-2)

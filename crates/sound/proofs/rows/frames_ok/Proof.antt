@@ -1,4 +1,4 @@
-use Rattle.sound.proofs.Laws.{frame-next}
+use Rattle.sound.proofs.RowLaws.{frame-next}
 use mathlib.Core.Path.{_≡_, refl}
 use Prim.Native.Nat.{_≤_, _-_}
 use native.Mathlib.Omega.{arith}

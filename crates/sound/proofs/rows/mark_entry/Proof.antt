@@ -1,4 +1,4 @@
-use Rattle.sound.proofs.Laws.{mark-none, mark-here, mark-past}
+use Rattle.sound.proofs.RowLaws.{mark-none, mark-here, mark-past}
 use borrow.Author.Needs.{needs}
 use Rattle.sound.proofs.rows.mark_entry.Statement.{statement}
 use Rattle.sound.proofs.rows.mark_entry.Tie as tie

@@ -4,7 +4,7 @@ use native.Mathlib.Omega.{arith}
 use Rattle.logic.specs.Below.{sumBelow}
 use Rattle.logic.proofs.Laws.{sum-next}
 use Rattle.sound.specs.Rows.{rowCount, presentAt, oneIf}
-use Rattle.sound.proofs.Laws.{entry-in}
+use Rattle.sound.proofs.RowLaws.{entry-in}
 use borrow.Author.Needs.{needs}
 use Rattle.sound.proofs.rows.row_count.Statement.{statement}
 use Rattle.sound.proofs.rows.row_count.Tie as tie

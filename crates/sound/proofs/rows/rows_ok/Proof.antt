@@ -5,7 +5,7 @@ use lib.ListN.{length}
 use Rattle.logic.specs.Below.{allBelow}
 use Rattle.logic.proofs.Laws.{all-next}
 use Rattle.sound.specs.Rows.{rowTest, rowsOk, markRows}
-use Rattle.sound.proofs.Laws.{rows-next}
+use Rattle.sound.proofs.RowLaws.{rows-next}
 use borrow.Author.Needs.{needs}
 use Rattle.sound.proofs.rows.rows_ok.Statement.{statement}
 use Rattle.sound.proofs.rows.rows_ok.Tie as tie

@@ -1,5 +1,5 @@
 use Rattle.sound.specs.Tree.{chainsEnd, stepsUp}
-use Rattle.sound.proofs.Laws.{ended}
+use Rattle.sound.proofs.TreeLaws.{ended}
 use borrow.Author.Needs.{needs}
 use Rattle.sound.proofs.tree.chains_end.Statement.{statement}
 use Rattle.sound.proofs.tree.chains_end.Tie as tie

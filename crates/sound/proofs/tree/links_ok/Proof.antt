@@ -1,4 +1,4 @@
-use Rattle.sound.proofs.Laws.{links-by}
+use Rattle.sound.proofs.TreeLaws.{links-by}
 use borrow.Author.Needs.{needs}
 use Rattle.sound.proofs.tree.links_ok.Statement.{statement}
 use Rattle.sound.proofs.tree.links_ok.Tie as tie

@@ -1,5 +1,5 @@
 use Rattle.sound.specs.Tree.{nodeOk}
-use Rattle.sound.proofs.Laws.{free-node}
+use Rattle.sound.proofs.TreeLaws.{free-node}
 use borrow.Author.Needs.{needs}
 use Rattle.sound.proofs.tree.node_ok.Statement.{statement}
 use Rattle.sound.proofs.tree.node_ok.Tie as tie

@@ -3,7 +3,7 @@ use Prim.Native.Nat.{_≤_, _-_}
 use native.Mathlib.Omega.{arith}
 use lib.ListN.{length, length-set}
 use Rattle.sound.specs.Tree.{linksTo}
-use Rattle.sound.proofs.Laws.{links-next}
+use Rattle.sound.proofs.TreeLaws.{links-next}
 use borrow.Author.Needs.{needs}
 use Rattle.sound.proofs.tree.parents.Statement.{statement}
 use Rattle.sound.proofs.tree.parents.Tie as tie

@@ -3,7 +3,7 @@ use Prim.Native.Nat.{_≤_, _-_}
 use native.Mathlib.Omega.{arith}
 use lib.ListN.{length, length-set}
 use Rattle.sound.specs.Tree.{stepTo}
-use Rattle.sound.proofs.Laws.{step-next}
+use Rattle.sound.proofs.TreeLaws.{step-next}
 use borrow.Author.Needs.{needs}
 use Rattle.sound.proofs.tree.step_up.Statement.{statement}
 use Rattle.sound.proofs.tree.step_up.Tie as tie
