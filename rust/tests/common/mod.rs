@@ -21,8 +21,10 @@ pub const RIGHT_SPLIT: u32 = 2;
 
 pub const BAD_POOL: Answer = Answer { code: 7, value: 0 };
 
-/// Every call, with arguments that a good pool doesn't refuse with 7.
-pub const CALLS: [(&str, fn(&mut Tables<'_>) -> Answer); 2] = [
+type Call = fn(&mut Tables<'_>) -> Answer;
+
+/// Every call that tests the pool.
+pub const CALLS: [(&str, Call); 2] = [
     ("new", |tables| ffi::new(tables, 1)),
     ("len", |tables| ffi::len(tables.view(), 0)),
 ];

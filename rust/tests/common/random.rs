@@ -163,12 +163,13 @@ fn mappings(r: &mut Random, s: &mut Store) {
     if leaves.is_empty() || r.one_in(3) {
         return;
     }
-    let numbers = r.shuffled(64);
-    for place in 0..r.up_to(64) as usize {
+    let mut numbers = r.shuffled(64);
+    numbers.truncate(r.up_to(64) as usize);
+    for (place, number) in numbers.into_iter().enumerate() {
         let object = leaves[r.index(leaves.len())] as u32;
         let first = r.up_to(63);
         let pages = 1 + r.up_to(63 - first);
-        s.map(place, [numbers[place] as u32 + 1, object, first, pages]);
+        s.map(place, [number as u32 + 1, object, first, pages]);
     }
 }
 
@@ -191,7 +192,7 @@ pub fn change(r: &mut Random, s: &mut Store) -> Change {
         }
         10..=13 => {
             let i = some_entry(r, s);
-            Change::Entry(i, replace(r, &mut s.pages, i))
+            Change::Entry(i, replace_entry(r, &mut s.pages, i))
         }
         14 => {
             let i = r.index(s.used.len());
@@ -292,9 +293,19 @@ fn replace(r: &mut Random, table: &mut [u32], i: usize) -> u32 {
         2 => was ^ (1 << r.below(32)),
         3 => r.pick(&EDGES),
         4 => r.below(70) as u32,
-        5 => was.wrapping_add(entry(0, r.up_to(3), r.up_to(32)) - 1),
-        6 => table[r.index(table.len())],
+        5..=6 => table[r.index(table.len())],
         _ => r.below(1 << 32) as u32,
+    };
+    was
+}
+
+/// The same for an entry, of which often only one part is changed.
+fn replace_entry(r: &mut Random, pages: &mut [u32], i: usize) -> u32 {
+    let was = pages[i];
+    pages[i] = match r.below(4) {
+        0 => was & !(3 << 12) | r.up_to(3) << 12,
+        1 => was & 0x3fff | r.up_to(32) << 14,
+        _ => return replace(r, pages, i),
     };
     was
 }
