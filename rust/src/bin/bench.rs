@@ -1,5 +1,6 @@
-//! Times the sound test, which heads every call, beside a copy of 64 pages. Both are timed in turn
-//! in one run, and the ratio is that of the medians.
+//! Times the sound test, which heads every call, beside a copy of 64 pages. Tests of all pools and
+//! copies are timed in turn in one run. A ratio is that of the medians; the quartiles tell how far
+//! to trust it.
 
 use goramul::tables::{node, NEXT_OWNER, NODE_WORDS, ROW_WORDS};
 use goramul::{ffi, Store, MAX_FRAMES, MAX_PAGES, NODES, PAGE_SIZE};
@@ -9,49 +10,51 @@ use std::time::{Duration, Instant};
 const ROUNDS: usize = 5000;
 const COPIED: usize = (MAX_PAGES * PAGE_SIZE) as usize;
 
-/// A pool's name, the frames in use, the nodes that they are spread over, and the goal.
-const POOLS: [(&str, usize, usize, f64); 4] = [
-    ("64 frames in use, one object", 64, 1, 0.2),
-    ("64 frames in use, 64 objects", 64, 64, 0.2),
-    ("1,000 frames in use, 16 objects", 1000, 16, 0.6),
-    ("1,000 frames in use, 64 objects", 1000, 64, 0.6),
-];
-
-/// The same frames in a tree that is 31 hidden nodes deep.
-const DEEP: [(&str, usize, f64); 2] = [
-    ("64 frames in use, 31 deep", 64, 0.2),
-    ("1,000 frames in use, 31 deep", 1000, 0.6),
-];
+/// A pool of 1,024 frames, and the most that its test should take of a copy.
+struct Case {
+    name: &'static str,
+    pool: Store,
+    goal: f64,
+    tests: Vec<Duration>,
+    copies: Vec<Duration>,
+}
 
 fn main() {
-    for (name, frames, nodes, goal) in POOLS {
-        print(name, &objects(frames, nodes), goal);
-    }
-    for (name, frames, goal) in DEEP {
-        print(name, &deep(frames), goal);
-    }
-}
-
-fn print(name: &str, pool: &Store, goal: f64) {
-    assert!(ffi::is_sound(pool.view()));
-    let (test, copy) = medians(pool);
-    let ratio = test.as_secs_f64() / copy.as_secs_f64();
-    println!("{name:<32} {ratio:5.2} of a copy, goal {goal} ({test:?} to {copy:?})");
-}
-
-/// The medians of the test and of the copy.
-fn medians(pool: &Store) -> (Duration, Duration) {
+    let mut cases = [
+        case("64 frames in use, one object", objects(64, 1), 0.2),
+        case("64 frames in use, 64 objects", objects(64, 64), 0.2),
+        case("64 frames in use, 31 deep", deep(64), 0.2),
+        case("1,000 frames in use, 16 objects", objects(1000, 16), 0.6),
+        case("1,000 frames in use, 64 objects", objects(1000, 64), 0.6),
+        case("1,000 frames in use, 31 deep", deep(1000), 0.6),
+    ];
     let (from, mut to) = (vec![1u8; COPIED], vec![2u8; COPIED]);
-    let (mut tests, mut copies) = (Vec::new(), Vec::new());
     for _ in 0..ROUNDS {
-        tests.push(timed(|| {
-            black_box(ffi::is_sound(black_box(pool.view())));
-        }));
-        copies.push(timed(|| {
-            black_box(&mut to[..]).copy_from_slice(black_box(&from));
-        }));
+        for case in &mut cases {
+            round(case, &from, &mut to);
+        }
     }
-    (median(tests), median(copies))
+    cases.into_iter().for_each(print);
+}
+
+fn case(name: &'static str, pool: Store, goal: f64) -> Case {
+    assert!(ffi::is_sound(pool.view()));
+    Case {
+        name,
+        pool,
+        goal,
+        tests: Vec::new(),
+        copies: Vec::new(),
+    }
+}
+
+fn round(case: &mut Case, from: &[u8], to: &mut [u8]) {
+    case.tests.push(timed(|| {
+        black_box(ffi::is_sound(black_box(case.pool.view())));
+    }));
+    case.copies.push(timed(|| {
+        black_box(&mut *to).copy_from_slice(black_box(from));
+    }));
 }
 
 fn timed(work: impl FnOnce()) -> Duration {
@@ -60,9 +63,18 @@ fn timed(work: impl FnOnce()) -> Duration {
     start.elapsed()
 }
 
-fn median(mut times: Vec<Duration>) -> Duration {
+fn print(case: Case) {
+    let (test, copy) = (quartiles(case.tests), quartiles(case.copies));
+    let ratio = test[1].as_secs_f64() / copy[1].as_secs_f64();
+    let (name, goal) = (case.name, case.goal);
+    println!(
+        "{name:<32} {ratio:.2} of a copy (goal {goal}); quartiles {test:.1?}, copy {copy:.1?}"
+    );
+}
+
+fn quartiles(mut times: Vec<Duration>) -> [Duration; 3] {
     times.sort();
-    times[times.len() / 2]
+    [1, 2, 3].map(|quarter| times[times.len() * quarter / 4])
 }
 
 /// So many frames, spread evenly over the first nodes, each an object of 64 pages.
