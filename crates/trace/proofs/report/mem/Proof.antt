@@ -1,0 +1,24 @@
+use Prim.Native.Nat.{_≤_, _-_}
+use borrow.Author.Needs.{needs}
+use Rattle.trace.proofs.report.mem.Statement.{statement}
+use Rattle.trace.proofs.report.mem.Tie as tie
+
+abbrev Inv-loop : tie.InvT-loop
+Inv-loop used memory h₀ i₀ h i = i ≤ 64
+
+abbrev μ-loop : tie.MeasureT-loop
+μ-loop used memory h₀ i₀ h i = 64 - i
+
+pub mem-spec : {M : Type 1} → statement M
+mem-spec =
+    tie.close
+    (tie.spec
+    Inv-loop
+    μ-loop
+    (λ c κs. search needs)
+    (λ c. search needs)
+    (λ c κs. search needs)
+    (λ c. search needs)
+    (λ c. search needs)
+    (λ c. search needs)
+    (λ c. search needs))
