@@ -1,4 +1,4 @@
--- A byte range cut at the boundaries of pages of L bytes (block_range.rs 29 to 53; vm/mod.rs 29 to 47).
+-- A byte range cut at the boundaries of pages of L bytes (block_range.rs 29 to 52; vm/mod.rs 29 to 47).
 use Prim.Native.Nat.{ℕ, zero, suc, _+_, _-_, _/_, _%_}
 use mathlib.Core.Bool.{Bool}
 use mathlib.Core.List.{List, [], _∷_}
@@ -12,7 +12,7 @@ use Rattle.blocks.specs.declared.Next.the-variants.{Block, Done}
 abbrev pub alignedOf : ℕ → ℕ → Bool
 alignedOf L x = eqb (x % L) 0
 
--- pages, 45
+-- pages, 40
 unfoldable pub pagesOf : ℕ → ℕ → ℕ
 pagesOf L x = pick (eqb (x % L) 0) (x / L) (x / L + 1)
 

@@ -1,11 +1,14 @@
 -- An answer's number and value are what its call gives. Assumes nothing.
-use mathlib.Core.Path.{_≡_}
+use mathlib.Core.Path.{_≡_, sym, ap, _∙_}
 use Prim.Native.Nat.{ℕ}
 use Rattle.tables.specs.Pool.{Pool}
 use Rattle.pool.specs.declared.answer.Answer.{Answer}
 use Rattle.pool.specs.Answers.{codeOf, valueOf}
 use Rattle.pool.specs.Calls.{Call, callOf}
-use Rattle.exports.specs.Exports.{givenOf, given}
+use Rattle.exports.specs.Exports.{Given, givenOf, given}
 
 pub gives : (p : Pool) {k : Call} {r : Answer} {c v : ℕ} → callOf r p ≡ k → v ≡ valueOf r → c ≡ codeOf r → givenOf c v p ≡ given k
 gives p e h t = rw (← e, h, t)
+
+pub unique-given : {rule : Given} {c d v w : ℕ} {p q : Pool} → givenOf c v p ≡ rule → givenOf d w q ≡ rule → (c ≡ d) × (v ≡ w) × (p ≡ q)
+unique-given e f = let h = e ∙ sym f in (ap (λ (g : Given). g .code) h, ap (λ (g : Given). g .value) h, ap (λ (g : Given). g .pool) h)

@@ -1,5 +1,5 @@
-//! The sound pool again, written from document 01's paragraph and the layout of the tables with no
-//! look at the library's test: each sentence is one rule.
+//! The sound pool again, written from document 01's paragraph and the layout of the tables, sharing no code
+//! with the library's test: each sentence is one rule.
 
 use goramul::tables::{mapping, node};
 use goramul::View;
