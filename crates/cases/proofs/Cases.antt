@@ -6,11 +6,11 @@ use Prim.Native.Nat.{ℕ}
 use lib.ListN.{replicate}
 use Rattle.logic.specs.Below.{allBelow, sumBelow, firstFrom}
 use Rattle.tables.specs.Pool.{Pool, poolOf}
-use Rattle.tables.specs.Tables.{wordOf, recordOf, nodeOf, entryOf, mappingOf, isFree, freeNodeIn}
+use Rattle.tables.specs.Tables.{wordOf, recordOf, nodeOf, entryOf, mappingOf, numberOf, isFree, freeNodeIn}
 use Rattle.sound.specs.Sound.{lengthsOk, tablesOk, sound}
 use Rattle.sound.specs.Tree.{numbersOk, linkedOf, linksOk, namedOk, belowOk, nodeOk, nodesOk, linksTo, stepTo, stepsUp, chainsEnd, startOf, startsSum, startsOk}
 use Rattle.sound.specs.Rows.{entryOk, entryOkAt, rowOk, pinsAt, rowPins, rowTest, rowsOk, markEntry, markRun, markRows, frameOk, framesOk}
-use Rattle.sound.specs.Maps.{mappingOk, numberOf, placeOk, placesOk, mappingsOk}
+use Rattle.sound.specs.Maps.{mappingOk, placeOk, placesOk, mappingsOk}
 use Rattle.pool.specs.Calls.{callOf, start, freshPool, leafAt, newLeaf, new}
 use Rattle.pool.specs.declared.answer.Answer.the-variants.{Done, Refused}
 use Rattle.pool.specs.declared.answer.Refusal.the-variants.{InvalidArgs}

@@ -5,8 +5,8 @@ use mathlib.Core.List.{List}
 use Prim.Native.Nat.{ℕ, _+_}
 use lib.Dec.{eqb}
 use Rattle.tables.specs.declared.Mapping.{Mapping}
-use Rattle.tables.specs.Tables.{mappingOf}
-use Rattle.sound.specs.Maps.{mappingOk, blankOf, numberOf, placeOk}
+use Rattle.tables.specs.Tables.{mappingOf, numberOf}
+use Rattle.sound.specs.Maps.{mappingOk, blankOf, placeOk}
 
 module _ (nodes mappings : List ℕ) (i : ℕ) {m : Mapping} {b : Bool} where
   pub place-blank : {w : ℕ} → m ≡ mappingOf mappings i → b ≡ blankOf m → b ≡ true → w ≡ numberOf mappings (i + 1) → eqb w 0 ≡ placeOk nodes mappings i

@@ -8,7 +8,7 @@ use Rattle.logic.specs.Pick.{pick}
 use Rattle.logic.specs.Below.{allBelow}
 use Rattle.node.specs.Node.{leafOf}
 use Rattle.tables.specs.declared.Mapping.{Mapping}
-use Rattle.tables.specs.Tables.{nodeOf, mappingOf}
+use Rattle.tables.specs.Tables.{nodeOf, mappingOf, numberOf}
 use Rattle.sound.specs.Rows.{markRun}
 
 unfoldable pub mappingOk : List ℕ → Mapping → Bool
@@ -18,9 +18,6 @@ mappingOk nodes m =
 
 abbrev pub blankOf : Mapping → Bool
 blankOf m = eqb (m .number) 0 && eqb (m .object) 0 && eqb (m .first) 0 && eqb (m .pages) 0
-
-unfoldable pub numberOf : List ℕ → ℕ → ℕ
-numberOf mappings i = mappingOf mappings i .number
 
 -- a free place has no mapping after it
 unfoldable pub placeOk : List ℕ → List ℕ → ℕ → Bool

@@ -3,8 +3,8 @@ use tables::Mapping;
 ghost use mathlib.Core.Path.{_≡_};
 ghost use Prim.Native.Nat.{_<_};
 ghost use Rattle.logic.specs.Below.{allBelow};
-ghost use Rattle.tables.specs.Tables.{mappingOf};
-ghost use Rattle.sound.specs.Maps.{mappingOk, blankOf, placeOk, placesOk, numberOf, onceAt, mappingsOk};
+ghost use Rattle.tables.specs.Tables.{mappingOf, numberOf};
+ghost use Rattle.sound.specs.Maps.{mappingOk, blankOf, placeOk, placesOk, onceAt, mappingsOk};
 ghost use Rattle.sound.specs.Rows.{markRun};
 
 // A mapping shows pages below 64 of a leaf.
@@ -25,13 +25,6 @@ fn is_blank(m: Mapping) -> bool
     (m.number == 0) & (m.object == 0) & (m.first == 0) & (m.pages == 0)
 }
 
-fn number_at(mappings: &[u32], place: u32) -> u32
-    ensures { λ r. ⌜ r ≡ numberOf (now (mappings .entry)) place ⌝ }
-{
-    let m = tables::mapping_at(mappings, place);
-    m.number
-}
-
 // A free place has no mapping after it.
 fn place_ok(nodes: &[u32], mappings: &[u32], place: u32) -> bool
     requires { ⌜ place < 64 ⌝ }
@@ -39,7 +32,7 @@ fn place_ok(nodes: &[u32], mappings: &[u32], place: u32) -> bool
 {
     let m = tables::mapping_at(mappings, place);
     if is_blank(m) {
-        return number_at(mappings, place + 1) == 0;
+        return tables::number_at(mappings, place + 1) == 0;
     }
     mapping_ok(nodes, m)
 }
@@ -61,7 +54,7 @@ fn mark_numbers(mappings: &[u32], marks: &mut [u8])
 {
     let mut i = 0;
     while i < 64 {
-        let number = number_at(mappings, i);
+        let number = tables::number_at(mappings, i);
         crate::rows::mark_entry(marks, number);
         i += 1;
     }

@@ -7,9 +7,9 @@ use native.Mathlib.Omega.{arith}
 use lib.ListN.{length, getD, replicate, getD-replicate}
 use Rattle.node.specs.Node.{leafOf}
 use Rattle.tables.specs.declared.Mapping.{Mapping}
-use Rattle.tables.specs.Tables.{nodeOf, mappingOf, mappingBy}
+use Rattle.tables.specs.Tables.{nodeOf, mappingOf, mappingBy, numberOf}
 use Rattle.sound.specs.Rows.{markRun}
-use Rattle.sound.specs.Maps.{mappingOk, blankOf, numberOf, placeOk, placesOk, onceAt, mappingsOk}
+use Rattle.sound.specs.Maps.{mappingOk, blankOf, placeOk, placesOk, onceAt, mappingsOk}
 use Rattle.sound.specs.Facts.{LiveAt, Mappings}
 use Rattle.logic.proofs.Means.{Means, says, itself, equal, most, less, both, split, picked, below, every}
 use Rattle.soundness.proofs.Records.{mapping-out}

@@ -65,6 +65,9 @@ mappingOf mappings i =
     (mappingBy (getD mappings (i * 4) 0) (getD mappings (i * 4 + 1) 0) (getD mappings (i * 4 + 2) 0) (getD mappings (i * 4 + 3) 0))
     (mappingBy 0 0 0 0)
 
+unfoldable pub numberOf : List ℕ → ℕ → ℕ
+numberOf mappings i = mappingOf mappings i .number
+
 unfoldable pub isFree : List ℕ → ℕ → Bool
 isFree nodes n = eqb (wordOf nodes n 0) 0
 

@@ -6,7 +6,7 @@ use node::Node;
 ghost use mathlib.Core.Path.{_≡_};
 ghost use Prim.Native.Nat.{_≤_};
 ghost use lib.ListN.{getD, set};
-ghost use Rattle.tables.specs.Tables.{wordOf, withWord, withFive, nodeOf, withNode, entryOf, slotAt, withEntry, withState, withoutState, mappingOf, freeNodeIn};
+ghost use Rattle.tables.specs.Tables.{wordOf, withWord, withFive, nodeOf, withNode, entryOf, slotAt, withEntry, withState, withoutState, mappingOf, numberOf, freeNodeIn};
 
 // A mapping in the order of appending: its number + 1 (0: none), its object, and the object's pages that it shows.
 pub struct Mapping {
@@ -156,6 +156,14 @@ pub fn mapping_at(mappings: &[u32], place: u32) -> Mapping
         first: 0,
         pages: 0,
     }
+}
+
+// The number + 1 of the mapping at a place; 0: none.
+pub fn number_at(mappings: &[u32], place: u32) -> u32
+    ensures { λ r. ⌜ r ≡ numberOf (now (mappings .entry)) place ⌝ }
+{
+    let m = mapping_at(mappings, place);
+    m.number
 }
 
 // The lowest free node of the 64.

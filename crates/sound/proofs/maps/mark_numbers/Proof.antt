@@ -2,7 +2,7 @@ use mathlib.Core.Path.{_≡_, refl}
 use Prim.Native.Nat.{_≤_, _-_}
 use native.Mathlib.Omega.{arith}
 use lib.ListN.{length}
-use Rattle.sound.specs.Maps.{numberOf}
+use Rattle.tables.specs.Tables.{numberOf}
 use Rattle.sound.specs.Rows.{markRun}
 use Rattle.sound.proofs.RowLaws.{run-next}
 use borrow.Author.Needs.{needs}

@@ -1,9 +1,9 @@
 use mathlib.Core.Path.{ap}
 use Rattle.tables.specs.declared.Mapping.{Mapping}
-use Rattle.sound.specs.Maps.{numberOf}
+use Rattle.tables.specs.Tables.{numberOf}
 use borrow.Author.Needs.{needs}
-use Rattle.sound.proofs.maps.number_at.Statement.{statement}
-use Rattle.sound.proofs.maps.number_at.Tie as tie
+use Rattle.tables.proofs.number_at.Statement.{statement}
+use Rattle.tables.proofs.number_at.Tie as tie
 
 returns : tie.Need-returns
 unfolding numberOf
