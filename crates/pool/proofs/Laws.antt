@@ -14,10 +14,9 @@ use Rattle.node.specs.Node.{leafOf, originNode}
 use Rattle.tables.specs.Pool.{Pool, poolOf}
 use Rattle.tables.specs.Tables.{nodeOf, withNode, freeNodeIn}
 use Rattle.sound.specs.Sound.{lengthsOk, sound}
-use Rattle.pool.specs.declared.answer.Answer.{Answer}
 use Rattle.pool.specs.declared.answer.Answer.the-variants.{Done, Refused}
 use Rattle.pool.specs.declared.answer.Refusal.the-variants.{InvalidArgs, BadPool, NoObject, NoNode}
-use Rattle.pool.specs.Calls.{Call, callOf, refused, freshPool, start, leafAt, newLeaf, new, findObject, lenOf, lenAt, len}
+use Rattle.pool.specs.Calls.{Call, callOf, refused, freshPool, start, leafAt, newLeaf, new, findObject, atNode, onObject}
 
 append-nil : (l : List ℕ) → l ++ [] ≡ l
 append-nil [] = refl
@@ -64,17 +63,19 @@ module _ (L : ℕ) (p : Pool) {b : Bool} (t : b ≡ sound L p) where
   unfolding new
   new-bad size h = rw (sym t ∙ h)
 
-  pub len-step : (object : ℕ) {f : Found} {n : ℕ} {r : Answer} → b ≡ true → f ≡ findObject (p .nodes) object → f ≡ At n → r ≡ lenOf L (p .nodes) n → callOf r p ≡ len L p object
-  unfolding len lenAt
-  len-step object h f e a = rw (sym t ∙ h, ← f, e, a)
+-- the ways through a call on an object
+module _ (L : ℕ) (p : Pool) (object : ℕ) (does : ℕ → Call) {b : Bool} (t : b ≡ sound L p) where
+  pub object-step : {f : Found} {n : ℕ} {c : Call} → b ≡ true → f ≡ findObject (p .nodes) object → f ≡ At n → c ≡ does n → c ≡ onObject L p object does
+  unfolding onObject atNode
+  object-step h f e a = rw (sym t ∙ h, sym f ∙ e) a
 
-  pub len-none : (object : ℕ) {f : Found} → b ≡ true → f ≡ findObject (p .nodes) object → f ≡ Nothing → refused NoObject p ≡ len L p object
-  unfolding len lenAt
-  len-none object h f e = rw (sym t ∙ h, ← f, e)
+  pub object-none : {f : Found} → b ≡ true → f ≡ findObject (p .nodes) object → f ≡ Nothing → refused NoObject p ≡ onObject L p object does
+  unfolding onObject atNode
+  object-none h f e = rw (sym t ∙ h, sym f ∙ e)
 
-  pub len-bad : (object : ℕ) → b ≡ false → refused BadPool p ≡ len L p object
-  unfolding len
-  len-bad object h = rw (sym t ∙ h)
+  pub object-bad : b ≡ false → refused BadPool p ≡ onObject L p object does
+  unfolding onObject
+  object-bad h = rw (sym t ∙ h)
 
 module _ (L : ℕ) (N P U M H Y : List ℕ) {b : Bool} (t : b ≡ lengthsOk L (poolOf N P U M H Y)) where
   pub start-fresh : {N′ P′ U′ M′ H′ H″ : List ℕ} → b ≡ true → N′ ≡ replicate (length N) 0 → P′ ≡ replicate (length P) 0 → U′ ≡ replicate (length U) 0 → M′ ≡ replicate (length M) 0 → H′ ≡ replicate (length H) 0 → H″ ≡ set H′ 0 1 → callOf (Done 0) (poolOf N′ P′ U′ M′ H″ Y) ≡ start L (poolOf N P U M H Y)

@@ -53,13 +53,17 @@ new L p size = pick (sound L p) (pick (leb size 64) (newLeaf p size) (refused In
 unfoldable pub findObject : List ℕ → ℕ → Found
 findObject nodes object = pick (ltb object 64) (pick (leafOf (nodeOf nodes object)) (At object) Nothing) Nothing
 
+-- a call on an object: BAD_POOL, then NO_OBJECT, then what the call does with the object's node
+unfoldable pub atNode : Pool → (ℕ → Call) → Found → Call
+atNode p does (At n) = does n
+atNode p does Nothing = refused NoObject p
+
+unfoldable pub onObject : ℕ → Pool → ℕ → (ℕ → Call) → Call
+onObject L p object does = pick (sound L p) (atNode p does (findObject (p .nodes) object)) (refused BadPool p)
+
 -- len, 272, in bytes
 unfoldable pub lenOf : ℕ → List ℕ → ℕ → Answer
 lenOf L nodes n = Done (nodeOf nodes n .size * L)
 
-unfoldable pub lenAt : ℕ → Pool → Found → Call
-lenAt L p (At n) = callOf (lenOf L (p .nodes) n) p
-lenAt L p Nothing = refused NoObject p
-
-unfoldable pub len : ℕ → Pool → ℕ → Call
-len L p object = pick (sound L p) (lenAt L p (findObject (p .nodes) object)) (refused BadPool p)
+abbrev pub len : ℕ → Pool → ℕ → Call
+len L p object = onObject L p object (λ n. callOf (lenOf L (p .nodes) n) p)

@@ -5,6 +5,7 @@ mod steps;
 pub use answer::Answer;
 pub use answer::Refusal;
 use logic::Found;
+pub use steps::find_object;
 ghost use mathlib.Core.Path.{_≡_};
 ghost use Rattle.tables.specs.Pool.{poolOf};
 ghost use Rattle.pool.specs.Calls.{callOf, start, new, len};
