@@ -5,12 +5,19 @@ use mathlib.Core.List.{List}
 use lib.Dec.{eqb, leb, ltb}
 use lib.ListN.{length, getD, set}
 use Rattle.logic.specs.Pick.{pick}
-use Rattle.logic.specs.Below.{firstFrom, copied, zeroed}
+use Rattle.logic.specs.Below.{sumBelow, firstFrom, copied, zeroed}
 use Rattle.logic.specs.declared.Found.{Found}
 use Rattle.logic.specs.declared.Found.the-variants.{At, Nothing}
 
 unfoldable pub idleOf : List ℕ → ℕ → Bool
 idleOf used f = ltb f (length used) && eqb (getD used f 0) 0
+
+unfoldable pub oneIdle : List ℕ → ℕ → ℕ
+oneIdle used f = pick (idleOf used f) 1 0
+
+-- how many frames are free
+unfoldable pub freeCount : List ℕ → ℕ
+freeCount used = sumBelow (oneIdle used) 1024
 
 -- the lowest free frame: PhysFrame::new by document 01's rule
 unfoldable pub freeFrameIn : List ℕ → Found

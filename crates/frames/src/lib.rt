@@ -2,9 +2,9 @@
 use logic::Found;
 ghost use mathlib.Core.Path.{_≡_};
 ghost use mathlib.Core.Bool.{_&&_};
-ghost use Prim.Native.Nat.{_*_, _+_, _^_, _<_};
+ghost use Prim.Native.Nat.{_*_, _+_, _^_, _≤_, _<_};
 ghost use lib.ListN.{length, set};
-ghost use Rattle.frames.specs.Frames.{idleOf, freeFrameIn, takenOf, givenOf, clearedAt, copiedAt, pastedAt};
+ghost use Rattle.frames.specs.Frames.{idleOf, oneIdle, freeCount, freeFrameIn, takenOf, givenOf, clearedAt, copiedAt, pastedAt};
 
 fn is_idle(used: &[u8], frame: u32) -> bool
     ensures { λ r. ⌜ r ≡ idleOf (now (used .entry)) frame ⌝ }
@@ -28,6 +28,29 @@ pub fn free_frame(used: &[u8]) -> Found
         i += 1;
     }
     Found::Nothing
+}
+
+fn one_idle(used: &[u8], frame: u32) -> u32
+    ensures { λ r. ⌜ r ≡ oneIdle (now (used .entry)) frame ⌝ }
+    ensures small { λ r. ⌜ r ≤ 1 ⌝ }
+{
+    if is_idle(used, frame) {
+        return 1;
+    }
+    0
+}
+
+// How many frames are free.
+pub fn free_count(used: &[u8]) -> u32
+    ensures { λ r. ⌜ r ≡ freeCount (now (used .entry)) ⌝ }
+{
+    let mut sum: u32 = 0;
+    let mut i: u32 = 0;
+    while i < 1024 {
+        sum += one_idle(used, i);
+        i += 1;
+    }
+    sum
 }
 
 fn put_flag(used: &mut [u8], frame: u32, flag: u8)

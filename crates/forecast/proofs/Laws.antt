@@ -1,0 +1,58 @@
+-- The ways through the forecast. Assumes nothing.
+use mathlib.Core.Path.{_≡_, refl, sym, _∙_}
+use mathlib.Core.Bool.{Bool, true, false}
+use mathlib.Core.List.{List}
+use Prim.Native.Nat.{ℕ, _+_, _-_, _*_, _/_, _%_, _≤_, _<_}
+use native.Mathlib.Omega.{arith}
+use lib.Dec.{eqb, leb}
+use borrow.Author.Tests.{le-leb, lt-leb, lt-ltb, le-ltb}
+use Rattle.logic.specs.Pick.{pick}
+use Rattle.entry.specs.declared.Slot.{Slot}
+use Rattle.entry.specs.declared.Slot.the-variants.{Empty, Held}
+use Rattle.entry.specs.declared.PageState.{PageState}
+use Rattle.node.specs.declared.Node.{Node}
+use Rattle.blocks.specs.declared.BlockIter.{BlockIter}
+use Rattle.blocks.specs.Blocks.{iterOf, pagesOf, countOf}
+use Rattle.tables.specs.Tables.{nodeOf, slotAt}
+use Rattle.pool.specs.declared.answer.Answer.the-variants.{Done, Refused}
+use Rattle.pool.specs.declared.answer.Refusal.the-variants.{OutOfRange}
+use Rattle.forecast.specs.Forecast.{oneAbsent, absentAt, yesOf, forecastAnswer}
+
+module _ (pages : List ℕ) (n i : ℕ) {s : Slot} where
+  pub absent-empty : i < 64 → s ≡ slotAt pages n i → s ≡ Empty → 1 ≡ absentAt pages n i
+  unfolding absentAt
+  absent-empty h e t = rw (lt-ltb _ _ h, sym e ∙ t)
+
+  pub absent-held : {p : PageState} → i < 64 → s ≡ slotAt pages n i → s ≡ Held p → 0 ≡ absentAt pages n i
+  unfolding absentAt
+  absent-held h e t = rw (lt-ltb _ _ h, sym e ∙ t)
+
+pub absent-past : (pages : List ℕ) (n i : ℕ) → 64 ≤ i → 1 ≡ absentAt pages n i
+unfolding absentAt
+absent-past pages n i h = rw (le-ltb _ _ h)
+
+-- a count of pages is small
+
+pages-by : (b : Bool) (e : ℕ) → pick b (e / 4096) (e / 4096 + 1) ≤ e / 4096 + 1
+pages-by true e = omega arith
+pages-by false e = omega arith
+
+count-by : (b : Bool) (x e m : ℕ) → x ≤ e / 4096 + 1 → pick b 0 (x - m) ≤ e / 4096 + 1
+count-by true x e m h = omega arith
+count-by false x e m h = omega arith
+
+pub count-small : (range : BlockIter) {k : ℕ} → k ≡ countOf 4096 range → range .end < 18446744073709551616 → k ≤ 4503599627370496
+unfolding countOf pagesOf
+count-small range e h =
+    let a = pages-by (eqb (range .end % 4096) 0) (range .end) in
+    let b = count-by (leb (range .end) (range .begin)) (pick (eqb (range .end % 4096) 0) (range .end / 4096) (range .end / 4096 + 1)) (range .end) (range .begin / 4096) a in
+    rw e (omega arith)
+
+module _ (nodes pages used : List ℕ) (n offset len : ℕ) {r : Node} (e : r ≡ nodeOf nodes n) where
+  pub out-of-range : r .size * 4096 < offset + len → Refused OutOfRange ≡ forecastAnswer 4096 nodes pages used n offset len
+  unfolding forecastAnswer
+  out-of-range h = rw (lt-leb _ _ (rw e at h))
+
+  pub in-range : {y : ℕ} → offset + len ≤ r .size * 4096 → y ≡ yesOf 4096 pages used n (iterOf offset (offset + len)) → Done y ≡ forecastAnswer 4096 nodes pages used n offset len
+  unfolding forecastAnswer
+  in-range h a = rw (le-leb _ _ (rw e at h), a)

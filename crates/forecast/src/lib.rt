@@ -1,0 +1,93 @@
+// The call forecast: are there as many free frames as the range has pages that the leaf does not hold?
+use blocks::BlockIter;
+use entry::Slot;
+use logic::Found;
+use pool::Answer;
+use pool::Refusal;
+ghost use mathlib.Core.Path.{_≡_};
+ghost use Prim.Native.Nat.{_≤_, _<_};
+ghost use Rattle.tables.specs.Pool.{poolOf};
+ghost use Rattle.pool.specs.Calls.{callOf};
+ghost use Rattle.forecast.specs.Forecast.{absentAt, absentIn, yesOf, forecastAnswer, forecast};
+
+// 1 where the node holds no frame for the page.
+fn absent(pages: &[u32], node: u32, page: u64) -> u64
+    ensures { λ r. ⌜ r ≡ absentAt (now (pages .entry)) node page ⌝ }
+    ensures small { λ r. ⌜ r ≤ 1 ⌝ }
+{
+    if page < 64 {
+        let slot = tables::slot_at(pages, node, page as u32);
+        match slot {
+            Slot::Empty => return 1,
+            Slot::Held(_) => return 0,
+        }
+    }
+    1
+}
+
+fn absent_in(pages: &[u32], node: u32, first: u64, count: u64) -> u64
+    requires { ⌜ (first < 4503599627370496) × (count ≤ 4503599627370496) ⌝ }
+    ensures { λ r. ⌜ r ≡ absentIn (now (pages .entry)) node first count ⌝ }
+{
+    let mut sum: u64 = 0;
+    let mut k: u64 = 0;
+    while k < count {
+        sum += absent(pages, node, first + k);
+        k += 1;
+    }
+    sum
+}
+
+fn yes(pages: &[u32], used: &[u8], node: u32, range: BlockIter) -> u64
+    ensures { λ r. ⌜ r ≡ yesOf 4096 (now (pages .entry)) (now (used .entry)) node range ⌝ }
+{
+    let needed = absent_in(pages, node, range.begin / 4096, range.count());
+    if needed <= frames::free_count(used) as u64 {
+        return 1;
+    }
+    0
+}
+
+fn answer(nodes: &[u32], pages: &[u32], used: &[u8], node: u32, offset: u64, len: u64) -> Answer
+    ensures { λ r. ⌜ r ≡ forecastAnswer 4096 (now (nodes .entry)) (now (pages .entry)) (now (used .entry)) node offset len ⌝ }
+{
+    let n = tables::node_at(nodes, node);
+    let size = n.size as u64 * 4096;
+    if size < len {
+        return Answer::Refused(Refusal::OutOfRange);
+    }
+    if size - len < offset {
+        return Answer::Refused(Refusal::OutOfRange);
+    }
+    let range = BlockIter {
+        begin: offset,
+        end: offset + len,
+    };
+    Answer::Done(yes(pages, used, node, range))
+}
+
+// 1 for yes, 0 for no.
+pub fn forecast(
+    nodes: &[u32],
+    pages: &[u32],
+    used: &[u8],
+    mappings: &[u32],
+    head: &[u32],
+    memory: &[u8],
+    object: u64,
+    offset: u64,
+    len: u64,
+) -> Answer
+    ensures { λ r. ⌜
+        callOf r (poolOf (now (nodes .entry)) (now (pages .entry)) (now (used .entry)) (now (mappings .entry)) (now (head .entry)) (now (memory .entry)))
+        ≡ forecast 4096 (poolOf (now (nodes .entry)) (now (pages .entry)) (now (used .entry)) (now (mappings .entry)) (now (head .entry)) (now (memory .entry))) object offset len ⌝ }
+{
+    if sound::is_sound(nodes, pages, used, mappings, head, memory) {
+        let found = pool::find_object(nodes, object);
+        match found {
+            Found::At(node) => return answer(nodes, pages, used, node, offset, len),
+            Found::Nothing => return Answer::Refused(Refusal::NoObject),
+        }
+    }
+    Answer::Refused(Refusal::BadPool)
+}
