@@ -3,6 +3,8 @@ ghost use mathlib.Core.Path.{_≡_};
 ghost use Rattle.tables.specs.Pool.{poolOf};
 ghost use Rattle.sound.specs.Sound.{sound};
 ghost use Rattle.pool.specs.Calls.{start, new, len};
+ghost use Rattle.mapped.specs.Mapped.{appendMapping, removeMapping};
+ghost use Rattle.forecast.specs.Forecast.{forecast};
 ghost use Rattle.exports.specs.Exports.{givenOf, given};
 
 #[no_mangle]
@@ -60,6 +62,71 @@ pub extern "C" fn goramul_len(
         ≡ given (len 4096 (poolOf (now (nodes .entry)) (now (pages .entry)) (now (used .entry)) (now (mappings .entry)) (now (head .entry)) (now (memory .entry))) object) ⌝ }
 {
     let answer = pool::len(nodes, pages, used, mappings, head, memory, object);
+    *value = answer.value();
+    answer.code()
+}
+
+#[no_mangle]
+pub extern "C" fn goramul_append_mapping(
+    nodes: &[u32],
+    pages: &[u32],
+    used: &[u8],
+    mappings: &mut [u32],
+    head: &[u32],
+    memory: &[u8],
+    object: u64,
+    first: u64,
+    count: u64,
+    value: &mut u64,
+) -> u32
+    ensures { λ r. ⌜
+        givenOf r (now (value .exit)) (poolOf (now (nodes .entry)) (now (pages .entry)) (now (used .entry)) (now (mappings .exit)) (now (head .entry)) (now (memory .entry)))
+        ≡ given (appendMapping 4096 (poolOf (now (nodes .entry)) (now (pages .entry)) (now (used .entry)) (now (mappings .entry)) (now (head .entry)) (now (memory .entry))) object first count) ⌝ }
+{
+    let answer = mapped::append_mapping(nodes, pages, used, mappings, head, memory, object, first, count);
+    *value = answer.value();
+    answer.code()
+}
+
+#[no_mangle]
+pub extern "C" fn goramul_remove_mapping(
+    nodes: &[u32],
+    pages: &[u32],
+    used: &[u8],
+    mappings: &mut [u32],
+    head: &[u32],
+    memory: &[u8],
+    object: u64,
+    mapping: u64,
+    value: &mut u64,
+) -> u32
+    ensures { λ r. ⌜
+        givenOf r (now (value .exit)) (poolOf (now (nodes .entry)) (now (pages .entry)) (now (used .entry)) (now (mappings .exit)) (now (head .entry)) (now (memory .entry)))
+        ≡ given (removeMapping 4096 (poolOf (now (nodes .entry)) (now (pages .entry)) (now (used .entry)) (now (mappings .entry)) (now (head .entry)) (now (memory .entry))) object mapping) ⌝ }
+{
+    let answer = mapped::remove_mapping(nodes, pages, used, mappings, head, memory, object, mapping);
+    *value = answer.value();
+    answer.code()
+}
+
+#[no_mangle]
+pub extern "C" fn goramul_forecast(
+    nodes: &[u32],
+    pages: &[u32],
+    used: &[u8],
+    mappings: &[u32],
+    head: &[u32],
+    memory: &[u8],
+    object: u64,
+    offset: u64,
+    len: u64,
+    value: &mut u64,
+) -> u32
+    ensures { λ r. ⌜
+        givenOf r (now (value .exit)) (poolOf (now (nodes .entry)) (now (pages .entry)) (now (used .entry)) (now (mappings .entry)) (now (head .entry)) (now (memory .entry)))
+        ≡ given (forecast 4096 (poolOf (now (nodes .entry)) (now (pages .entry)) (now (used .entry)) (now (mappings .entry)) (now (head .entry)) (now (memory .entry))) object offset len) ⌝ }
+{
+    let answer = forecast::forecast(nodes, pages, used, mappings, head, memory, object, offset, len);
     *value = answer.value();
     answer.code()
 }
