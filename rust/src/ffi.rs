@@ -42,6 +42,9 @@ exports! {
     goramul_start(value: &mut u64) -> u32;
     goramul_new(size: u64, value: &mut u64) -> u32;
     goramul_len(object: u64, value: &mut u64) -> u32;
+    goramul_append_mapping(object: u64, first: u64, count: u64, value: &mut u64) -> u32;
+    goramul_remove_mapping(object: u64, mapping: u64, value: &mut u64) -> u32;
+    goramul_forecast(object: u64, offset: u64, len: u64, value: &mut u64) -> u32;
     goramul_is_sound() -> bool;
 }
 
@@ -115,6 +118,21 @@ pub fn new(tables: &mut Tables<'_>, size: u64) -> Answer {
 /// The length of an object; the value is in bytes.
 pub fn len(view: View<'_>, object: u64) -> Answer {
     answered(|value| look!(goramul_len, view, object, value))
+}
+
+/// A mapping of `count` pages of an object from `first` on; the value is its number.
+pub fn append_mapping(tables: &mut Tables<'_>, object: u64, first: u64, count: u64) -> Answer {
+    answered(|value| change!(goramul_append_mapping, tables, object, first, count, value))
+}
+
+/// Takes a mapping off its object; the value is 0.
+pub fn remove_mapping(tables: &mut Tables<'_>, object: u64, mapping: u64) -> Answer {
+    answered(|value| change!(goramul_remove_mapping, tables, object, mapping, value))
+}
+
+/// Whether free frames suffice for the range's absent pages; the value is 1 or 0.
+pub fn forecast(view: View<'_>, object: u64, offset: u64, len: u64) -> Answer {
+    answered(|value| look!(goramul_forecast, view, object, offset, len, value))
 }
 
 /// The test that heads every call.

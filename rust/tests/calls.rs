@@ -1,11 +1,11 @@
-//! start, new and len: values, refusals and their order.
+//! The calls: values, refusals and their order.
 
 mod common;
 
 use common::*;
 use goramul::ffi::{self, Answer};
 use goramul::tables::{NEXT_OWNER, NODE_WORDS};
-use goramul::{Object, Pool, Refusal, Store, PAGE_SIZE};
+use goramul::{Mapping, Object, Pool, Refusal, Store, PAGE_SIZE};
 
 fn ok(value: u64) -> Answer {
     Answer { code: 0, value }
@@ -187,4 +187,61 @@ fn refusals_have_document_01s_numbers_and_names() {
     }
     assert_eq!(Refusal::from_number(0), None);
     assert_eq!(Refusal::from_number(13), None);
+}
+
+#[test]
+fn mappings_keep_their_order_and_the_lowest_number_is_given_again() {
+    let mut pool = Pool::start(6).unwrap();
+    let (a, b) = (pool.new(2).unwrap(), pool.new(2).unwrap());
+    for number in 0..64 {
+        let object = if number % 2 == 0 { a } else { b };
+        let mapping = pool.append_mapping(object, number, 1).unwrap();
+        assert_eq!(mapping.number(), number);
+    }
+    assert_eq!(pool.append_mapping(a, 0, 1), Err(Refusal::NoRoom));
+    pool.remove_mapping(b, Mapping::from_number(4)).unwrap();
+    assert_eq!(pool.append_mapping(a, 0, 1), Err(Refusal::NoRoom));
+    pool.remove_mapping(a, Mapping::from_number(4)).unwrap();
+    pool.remove_mapping(b, Mapping::from_number(64)).unwrap();
+    assert_eq!(pool.append_mapping(b, 63, 1).unwrap().number(), 4);
+    let last = &pool.view().mappings[252..];
+    assert_eq!(last, [5, 1, 63, 1]);
+    assert!(pool.is_sound());
+}
+
+#[test]
+fn a_mapping_has_a_page_and_none_past_64() {
+    let mut pool = Pool::start(6).unwrap();
+    let object = pool.new(1).unwrap();
+    let none = Object::from_number(1);
+    for (first, pages) in [
+        (0, 0),
+        (64, 1),
+        (0, 65),
+        (1, 64),
+        (u64::MAX, 1),
+        (1, u64::MAX),
+    ] {
+        let refused = pool.append_mapping(object, first, pages);
+        assert_eq!(refused, Err(Refusal::InvalidArgs), "{first} {pages}");
+        let refused = pool.append_mapping(none, first, pages);
+        assert_eq!(refused, Err(Refusal::NoObject), "{first} {pages}");
+    }
+    assert!(pool.append_mapping(object, 0, 64).is_ok());
+    assert!(pool.append_mapping(object, 63, 1).is_ok());
+}
+
+#[test]
+fn the_forecast_counts_the_pages_that_the_object_does_not_hold() {
+    let mut pool = Pool::start(3).unwrap();
+    let object = pool.new(4).unwrap();
+    assert_eq!(pool.forecast(object, 0, 3 * PAGE_SIZE), Ok(true));
+    assert_eq!(pool.forecast(object, 0, 3 * PAGE_SIZE + 1), Ok(false));
+    assert_eq!(pool.forecast(object, 4095, 2 * PAGE_SIZE), Ok(true));
+    assert_eq!(pool.forecast(object, 4095, 2 * PAGE_SIZE + 2), Ok(false));
+    assert_eq!(pool.forecast(object, 4 * PAGE_SIZE, 0), Ok(true));
+    for (offset, len) in [(4 * PAGE_SIZE, 1), (1, 4 * PAGE_SIZE), (u64::MAX, u64::MAX)] {
+        let refused = pool.forecast(object, offset, len);
+        assert_eq!(refused, Err(Refusal::OutOfRange), "{offset} {len}");
+    }
 }

@@ -83,7 +83,17 @@ pub extern "C" fn goramul_append_mapping(
         givenOf r (now (value .exit)) (poolOf (now (nodes .entry)) (now (pages .entry)) (now (used .entry)) (now (mappings .exit)) (now (head .entry)) (now (memory .entry)))
         ≡ given (appendMapping 4096 (poolOf (now (nodes .entry)) (now (pages .entry)) (now (used .entry)) (now (mappings .entry)) (now (head .entry)) (now (memory .entry))) object first count) ⌝ }
 {
-    let answer = mapped::append_mapping(nodes, pages, used, mappings, head, memory, object, first, count);
+    let answer = mapped::append_mapping(
+        nodes,
+        pages,
+        used,
+        mappings,
+        head,
+        memory,
+        object,
+        first,
+        count,
+    );
     *value = answer.value();
     answer.code()
 }
@@ -104,7 +114,16 @@ pub extern "C" fn goramul_remove_mapping(
         givenOf r (now (value .exit)) (poolOf (now (nodes .entry)) (now (pages .entry)) (now (used .entry)) (now (mappings .exit)) (now (head .entry)) (now (memory .entry)))
         ≡ given (removeMapping 4096 (poolOf (now (nodes .entry)) (now (pages .entry)) (now (used .entry)) (now (mappings .entry)) (now (head .entry)) (now (memory .entry))) object mapping) ⌝ }
 {
-    let answer = mapped::remove_mapping(nodes, pages, used, mappings, head, memory, object, mapping);
+    let answer = mapped::remove_mapping(
+        nodes,
+        pages,
+        used,
+        mappings,
+        head,
+        memory,
+        object,
+        mapping,
+    );
     *value = answer.value();
     answer.code()
 }
@@ -126,7 +145,17 @@ pub extern "C" fn goramul_forecast(
         givenOf r (now (value .exit)) (poolOf (now (nodes .entry)) (now (pages .entry)) (now (used .entry)) (now (mappings .entry)) (now (head .entry)) (now (memory .entry)))
         ≡ given (forecast 4096 (poolOf (now (nodes .entry)) (now (pages .entry)) (now (used .entry)) (now (mappings .entry)) (now (head .entry)) (now (memory .entry))) object offset len) ⌝ }
 {
-    let answer = forecast::forecast(nodes, pages, used, mappings, head, memory, object, offset, len);
+    let answer = forecast::forecast(
+        nodes,
+        pages,
+        used,
+        mappings,
+        head,
+        memory,
+        object,
+        offset,
+        len,
+    );
     *value = answer.value();
     answer.code()
 }

@@ -154,8 +154,8 @@ fn lend(room: u64, state: State) -> Outcome
     )
 }
 
-// One line with its one number: the letter chooses the call.
-fn act(
+// A line with one number: the letter chooses the call.
+fn act_one(
     line: Line,
     state: State,
     nodes: &mut [u32],
@@ -171,9 +171,6 @@ fn act(
     let f = state.frames;
     let e = f * 4096;
     let letter = line.letter;
-    if line.count != 1 {
-        return nothing(state);
-    }
     match letter {
         b's' => start(line.a, state, nodes, pages, used, mappings, head, memory),
         b'a' => lend(line.a, state),
@@ -203,6 +200,95 @@ fn act(
         ),
         _ => nothing(state),
     }
+}
+
+// A line with two or three numbers.
+fn act_more(
+    line: Line,
+    state: State,
+    nodes: &[u32],
+    pages: &[u32],
+    used: &[u8],
+    mappings: &mut [u32],
+    head: &[u32],
+    memory: &[u8],
+) -> Outcome
+    ensures { λ r. ⌜ r .state ≡ state ⌝ }
+{
+    let letter = line.letter;
+    if line.count == 2 {
+        match letter {
+            b'u' => return acted(
+                mapped::remove_mapping(nodes, pages, used, mappings, head, memory, line.a, line.b),
+                state,
+            ),
+            _ => return nothing(state),
+        }
+    }
+    if line.count == 3 {
+        match letter {
+            b'm' => return acted(
+                mapped::append_mapping(
+                    nodes,
+                    pages,
+                    used,
+                    mappings,
+                    head,
+                    memory,
+                    line.a,
+                    line.b,
+                    line.c,
+                ),
+                state,
+            ),
+            b'f' => return acted(
+                forecast::forecast(
+                    nodes,
+                    pages,
+                    used,
+                    mappings,
+                    head,
+                    memory,
+                    line.a,
+                    line.b,
+                    line.c,
+                ),
+                state,
+            ),
+            _ => return nothing(state),
+        }
+    }
+    nothing(state)
+}
+
+fn act(
+    line: Line,
+    state: State,
+    nodes: &mut [u32],
+    pages: &mut [u32],
+    used: &mut [u8],
+    mappings: &mut [u32],
+    head: &mut [u32],
+    memory: &mut [u8],
+) -> Outcome
+    requires { ⌜ (state .frames ≤ 64) × (length (now used) ≡ 64) × (length (now memory) ≡ 262144) ⌝ }
+    ensures { λ r. ⌜ r .state .frames ≤ 64 ⌝ }
+{
+    let f = state.frames;
+    let e = f * 4096;
+    if line.count == 1 {
+        return act_one(line, state, nodes, pages, used, mappings, head, memory);
+    }
+    act_more(
+        line,
+        state,
+        nodes,
+        pages,
+        &used[..f],
+        mappings,
+        head,
+        &memory[..e],
+    )
 }
 
 fn answer_line(

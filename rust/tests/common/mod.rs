@@ -24,9 +24,14 @@ pub const BAD_POOL: Answer = Answer { code: 7, value: 0 };
 type Call = fn(&mut Tables<'_>) -> Answer;
 
 /// Every call that tests the pool.
-pub const CALLS: [(&str, Call); 2] = [
+pub const CALLS: [(&str, Call); 5] = [
     ("new", |tables| ffi::new(tables, 1)),
     ("len", |tables| ffi::len(tables.view(), 0)),
+    ("append_mapping", |tables| {
+        ffi::append_mapping(tables, 0, 0, 1)
+    }),
+    ("remove_mapping", |tables| ffi::remove_mapping(tables, 0, 0)),
+    ("forecast", |tables| ffi::forecast(tables.view(), 0, 0, 0)),
 ];
 
 pub fn entry(frame: u32, tag: u32, pins: u32) -> u32 {

@@ -4,29 +4,14 @@ use borrow.Author.Needs.{needs}
 use Rattle.trace.proofs.act.Statement.{statement}
 use Rattle.trace.proofs.act.Tie as tie
 
-returns : tie.Need-returns
-returns c = rw (c .nothing .ensures) (c .before .before .before .before .before .before .before .before .before .pre .0)
+slice-aggregate-act-more : tie.Need-slice-aggregate-act-more
+slice-aggregate-act-more c = part _ _ (c .before .before .before .before .before .before .before .before .before .before .before .pre .1) (c .before .before .before .before .before .before .before .before .before .before .before .pre .0)
 
-slice-aggregate-new : tie.Need-slice-aggregate-new
-slice-aggregate-new c = part _ _ (c .before .before .before .before .before .before .before .before .before .before .before .before .pre .1) (c .before .before .before .before .before .before .before .before .before .before .before .before .pre .0)
+slice-aggregate-act-more-2 : tie.Need-slice-aggregate-act-more-2
+slice-aggregate-act-more-2 c = part _ _ (c .before .before .before .before .before .before .before .before .before .before .before .before .before .before .pre .2) (omega arith)
 
-slice-aggregate-new-2 : tie.Need-slice-aggregate-new-2
-slice-aggregate-new-2 c = part _ _ (c .before .before .before .before .before .before .before .before .before .before .before .before .before .before .before .pre .2) (omega arith)
-
-slice-aggregate-len : tie.Need-slice-aggregate-len
-slice-aggregate-len c = part _ _ (c .before .before .before .before .before .before .before .before .before .before .before .before .pre .1) (c .before .before .before .before .before .before .before .before .before .before .before .before .pre .0)
-
-slice-aggregate-len-2 : tie.Need-slice-aggregate-len-2
-slice-aggregate-len-2 c = part _ _ (c .before .before .before .before .before .before .before .before .before .before .before .before .before .before .before .pre .2) (omega arith)
-
-returns-4 : tie.Need-returns-4
-returns-4 c = rw (c .acted .ensures) (c .before .before .before .before .before .before .before .before .before .before .before .before .before .before .before .before .before .before .before .before .before .pre .0)
-
-returns-5 : tie.Need-returns-5
-returns-5 c = rw (c .acted2 .ensures) (c .before .before .before .before .before .before .before .before .before .before .before .before .before .before .before .before .before .pre .0)
-
-returns-6 : tie.Need-returns-6
-returns-6 c = rw (c .nothing2 .ensures) (c .before .before .before .before .before .before .before .before .before .before .pre .0)
+returns-2 : tie.Need-returns-2
+returns-2 c = rw (c .before .before .act-more .ensures) (c .before .before .before .before .before .before .before .before .before .before .before .before .before .before .before .before .before .pre .0)
 
 pub act-spec : {M : Type 1} → statement M
 act-spec =
@@ -34,21 +19,17 @@ act-spec =
     (tie.spec
     (λ c. search needs)
     (λ c κs. search needs)
-    returns
-    (λ c κs. search needs)
-    (λ c κs. search needs)
     (λ c. search needs)
-    slice-aggregate-new
     (λ c. search needs)
-    slice-aggregate-new-2
-    (λ c κs. search needs)
-    (λ c κs. search needs)
     (λ c. search needs)
-    slice-aggregate-len
     (λ c. search needs)
-    slice-aggregate-len-2
-    (λ c κs. search needs)
-    (λ c κs. search needs)
+    (λ c. search needs)
+    (λ c. search needs)
+    (λ c. search needs)
+    (λ c. search needs)
+    slice-aggregate-act-more
+    (λ c. search needs)
+    slice-aggregate-act-more-2
     (λ c κs. search needs)
     (λ c. search needs)
     (λ c. search needs)
@@ -56,20 +37,4 @@ act-spec =
     (λ c. search needs)
     (λ c. search needs)
     (λ c. search needs)
-    (λ c. search needs)
-    (λ c. search needs)
-    (λ c. search needs)
-    (λ c. search needs)
-    (λ c. search needs)
-    (λ c. search needs)
-    (λ c. search needs)
-    (λ c. search needs)
-    returns-4
-    (λ c. search needs)
-    (λ c. search needs)
-    (λ c. search needs)
-    (λ c. search needs)
-    (λ c. search needs)
-    (λ c. search needs)
-    returns-5
-    returns-6)
+    returns-2)

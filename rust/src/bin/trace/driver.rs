@@ -2,7 +2,7 @@
 
 use crate::lines::fields;
 use goramul::report::Report;
-use goramul::{Object, Pool, Refusal};
+use goramul::{Mapping, Object, Pool, Refusal};
 use std::fmt::Write;
 
 const BAD_LINE: &str = "3 0";
@@ -21,6 +21,19 @@ const CALLS: &[Call] = &[
         Some(plain(d.pool.new(n[0]).map(Object::number)))
     }),
     (b'l', 1, |d, n| Some(plain(d.pool.len(object(n[0]))))),
+    (b'm', 3, |d, n| {
+        let appended = d.pool.append_mapping(object(n[0]), n[1], n[2]);
+        Some(plain(appended.map(Mapping::number)))
+    }),
+    (b'u', 2, |d, n| {
+        let mapping = Mapping::from_number(n[1]);
+        let removed = d.pool.remove_mapping(object(n[0]), mapping);
+        Some(plain(removed.map(|()| 0)))
+    }),
+    (b'f', 3, |d, n| {
+        let forecast = d.pool.forecast(object(n[0]), n[1], n[2]);
+        Some(plain(forecast.map(u64::from)))
+    }),
 ];
 
 /// The letters of the calls.
