@@ -1,0 +1,41 @@
+use mathlib.Core.Path.{_≡_, refl}
+use Prim.Native.Nat.{_≤_, _-_}
+use native.Mathlib.Omega.{arith}
+use lib.ListN.{length}
+use Rattle.notices.specs.Notices.{toldOf, tellObject}
+use Rattle.notices.proofs.Laws.{object-next}
+use borrow.Author.Needs.{needs}
+use Rattle.notices.proofs.tell_object.Statement.{statement}
+use Rattle.notices.proofs.tell_object.Tie as tie
+
+abbrev Inv-loop : tie.InvT-loop
+Inv-loop mappings notices₀ count object offset len op count₀ i₀ notices count' i = (i ≤ 64) × (length notices ≡ length notices₀) × (toldOf notices count' ≡ tellObject mappings (toldOf notices₀ count₀) i object offset len op)
+
+abbrev μ-loop : tie.MeasureT-loop
+μ-loop mappings notices₀ count object offset len op count₀ i₀ notices count' i = 64 - i
+
+loop-holds : tie.Need-loop-holds Inv-loop μ-loop
+unfolding tellObject
+loop-holds c = (search needs, refl, refl)
+
+loop-again : tie.Need-loop-again Inv-loop μ-loop
+loop-again c = (search needs, search needs, object-next _ _ _ _ _ _ _ (c .before .before .before .before .before .loop .inv .2) (c .before .before .tell-place .ensures))
+
+returns : tie.Need-returns Inv-loop μ-loop
+returns c =
+    let h : c .before .loop .i ≡ 64 = omega arith in
+    rw h at (c .before .loop .inv .2)
+
+pub tell-object-spec : {M : Type 1} → statement M
+tell-object-spec =
+    tie.close
+    (tie.spec
+    Inv-loop
+    μ-loop
+    loop-holds
+    (λ c κs. search needs)
+    (λ c. search needs)
+    (λ c. search needs)
+    loop-again
+    (λ c. search needs)
+    returns)

@@ -1,0 +1,78 @@
+-- Notices to mappings, in pages: the list so far, with what a change of a range adds.
+use Prim.Native.Nat.{ℕ, zero, suc, _+_, _-_, _*_, _/_, max, min}
+use mathlib.Core.Bool.{Bool, true, false}
+use mathlib.Core.List.{List}
+use lib.Dec.{eqb, ltb}
+use lib.ListN.{length, set}
+use Rattle.logic.specs.Pick.{pick}
+use Rattle.node.specs.declared.Node.{Node}
+use Rattle.node.specs.Node.{hiddenOf}
+use Rattle.tables.specs.declared.Mapping.{Mapping}
+use Rattle.tables.specs.Tables.{nodeOf, mappingOf}
+use Rattle.notices.specs.declared.Notice.{Notice}
+use Rattle.notices.specs.declared.Due.{Due}
+use Rattle.notices.specs.declared.Due.the-variants.{Notice as Tell, Nothing}
+
+-- the lent list and how many notices are in it
+pub record Told : Type 0 where
+  pub list : List ℕ
+  pub count : ℕ
+
+abbrev pub toldOf : List ℕ → ℕ → Told
+toldOf l c = record { list = l; count = c }
+
+abbrev pub noticeBy : ℕ → ℕ → ℕ → ℕ → Notice
+noticeBy m f p o = record { mapping = m; first = f; pages = p; op = o }
+
+-- one notice more, where the list has room
+unfoldable pub putNotice : Told → Notice → Told
+putNotice t n =
+    pick (ltb (t .count) (length (t .list) / 4))
+    (toldOf (set (set (set (set (t .list) (t .count * 4) (n .mapping)) (t .count * 4 + 1) (n .first)) (t .count * 4 + 2) (n .pages)) (t .count * 4 + 3) (n .op)) (t .count + 1))
+    t
+
+-- VmMapping::range_change, vmar.rs 1015: none for an empty overlap
+unfoldable pub overlapOf : Mapping → ℕ → ℕ → ℕ → Due
+overlapOf m offset len op =
+    pick (eqb (m .number) 0) Nothing
+    (pick (ltb (max offset (m .first)) (min (m .first + m .pages) (offset + len)))
+    (Tell (noticeBy (m .number - 1) (max offset (m .first) - m .first) (min (m .first + m .pages) (offset + len) - max offset (m .first)) op))
+    Nothing)
+
+abbrev pub tellDue : Told → Due → Told
+tellDue t (Tell n) = putNotice t n
+tellDue t Nothing = t
+
+-- the mapping at place i, if it is the object's
+unfoldable pub tellPlace : List ℕ → Told → ℕ → ℕ → ℕ → ℕ → ℕ → Told
+tellPlace M t i object offset len op =
+    pick (eqb (mappingOf M i .object) object) (tellDue t (overlapOf (mappingOf M i) offset len op)) t
+
+-- an object's mappings in list order: after k places
+unfoldable pub tellObject : List ℕ → Told → ℕ → ℕ → ℕ → ℕ → ℕ → Told
+tellObject M t zero object offset len op = t
+tellObject M t (suc k) object offset len op = tellPlace M (tellObject M t k object offset len op) k object offset len op
+
+-- what a node's window has of the parent's pages from lo to hi
+abbrev pub lowIn : Node → ℕ → ℕ
+lowIn n lo = max (n .«parent_offset») lo
+
+abbrev pub highIn : Node → ℕ → ℕ
+highIn n hi = min (n .«parent_limit») hi
+
+-- the number that a link names; no table has the number that stands for none
+unfoldable pub childOf : ℕ → ℕ
+childOf link = pick (eqb link 0) 4294967295 (link - 1)
+
+-- range_change, 659: of the parent's pages from lo to hi those in the node's window, for its mappings and then for both children of a
+-- hidden node, left first
+unfoldable pub rangeChange : ℕ → List ℕ → List ℕ → ℕ → ℕ → ℕ → ℕ → Told → Told
+rangeChange zero N M node lo hi op t = t
+rangeChange (suc k) N M node lo hi op t =
+    let n = nodeOf N node in
+    let a = lowIn n lo - n .«parent_offset» in
+    let e = highIn n hi - n .«parent_offset» in
+    let told = tellObject M t 64 node a (e - a) op in
+    let both = rangeChange k N M (childOf (n .right)) a e op (rangeChange k N M (childOf (n .left)) a e op told) in
+    let all = pick (hiddenOf n) both told in
+    pick (ltb (lowIn n lo) (highIn n hi)) all t

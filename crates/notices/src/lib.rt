@@ -1,0 +1,194 @@
+// Notices to mappings: range_change of an object (paged.rs 659 to 679) and of a mapping (vmar.rs 1010 to 1036), in pages.
+use node::Node;
+use tables::Mapping;
+ghost use mathlib.Core.Path.{_≡_};
+ghost use Prim.Native.Nat.{max, min};
+ghost use Rattle.notices.specs.Notices.{toldOf, putNotice, overlapOf, tellPlace, tellObject, childOf, rangeChange};
+
+pub const UNMAP: u32 = 1;
+
+pub const REMOVE_WRITE: u32 = 2;
+
+// A mapping's number, the first page in it, how many pages, and what is due.
+pub struct Notice {
+    pub mapping: u32,
+    pub first: u32,
+    pub pages: u32,
+    pub op: u32,
+}
+
+pub enum Due {
+    Notice(Notice),
+    Nothing,
+}
+
+fn larger(a: u32, b: u32) -> u32
+    ensures { λ r. ⌜ r ≡ max a b ⌝ }
+{
+    if a < b {
+        return b;
+    }
+    a
+}
+
+fn smaller(a: u64, b: u64) -> u64
+    ensures { λ r. ⌜ r ≡ min a b ⌝ }
+{
+    if a < b {
+        return a;
+    }
+    b
+}
+
+fn shorter(a: u32, b: u32) -> u32
+    ensures { λ r. ⌜ r ≡ min a b ⌝ }
+{
+    if a < b {
+        return a;
+    }
+    b
+}
+
+// The next place of the list, where there is one; how many are there then.
+fn put_notice(notices: &mut [u32], count: usize, n: Notice) -> usize
+    ensures { λ r. ⌜ toldOf (now (notices .exit)) r ≡ putNotice (toldOf (now (notices .entry)) count) n ⌝ }
+{
+    if count < notices.len() / 4 {
+        let a = count * 4;
+        tables::put(notices, a, n.mapping);
+        tables::put(notices, a + 1, n.first);
+        tables::put(notices, a + 2, n.pages);
+        tables::put(notices, a + 3, n.op);
+        return count + 1;
+    }
+    count
+}
+
+// What a mapping shows of len pages from offset on.
+fn overlap(m: Mapping, offset: u32, len: u32, op: u32) -> Due
+    ensures { λ r. ⌜ r ≡ overlapOf m offset len op ⌝ }
+{
+    let start = larger(offset, m.first);
+    let end = smaller(m.first as u64 + m.pages as u64, offset as u64 + len as u64);
+    if m.number == 0 {
+        return Due::Nothing;
+    }
+    if (start as u64) < end {
+        let pages = end - start as u64;
+        return Due::Notice(Notice {
+            mapping: m.number - 1,
+            first: start - m.first,
+            pages: pages as u32,
+            op: op,
+        });
+    }
+    Due::Nothing
+}
+
+// The mapping at a place, if it is the object's.
+fn tell_place(
+    mappings: &[u32],
+    notices: &mut [u32],
+    count: usize,
+    place: u32,
+    object: u32,
+    offset: u32,
+    len: u32,
+    op: u32,
+) -> usize
+    ensures { λ r. ⌜ toldOf (now (notices .exit)) r ≡ tellPlace (now (mappings .entry)) (toldOf (now (notices .entry)) count) place object offset len op ⌝ }
+{
+    let m = tables::mapping_at(mappings, place);
+    if m.object == object {
+        let due = overlap(m, offset, len, op);
+        match due {
+            Due::Notice(n) => return put_notice(notices, count, n),
+            Due::Nothing => return count,
+        }
+    }
+    count
+}
+
+// An object's mappings, in list order.
+pub fn tell_object(
+    mappings: &[u32],
+    notices: &mut [u32],
+    count: usize,
+    object: u32,
+    offset: u32,
+    len: u32,
+    op: u32,
+) -> usize
+    ensures { λ r. ⌜ toldOf (now (notices .exit)) r ≡ tellObject (now (mappings .entry)) (toldOf (now (notices .entry)) count) 64 object offset len op ⌝ }
+{
+    let mut count = count;
+    let mut i: u32 = 0;
+    while i < 64 {
+        count = tell_place(mappings, notices, count, i, object, offset, len, op);
+        i += 1;
+    }
+    count
+}
+
+// The number that a link names; no table has the number that stands for none.
+pub fn child(link: u32) -> u32
+    ensures { λ r. ⌜ r ≡ childOf link ⌝ }
+{
+    if link == Node::NONE {
+        return 4294967295;
+    }
+    link - 1
+}
+
+// A change of the parent's pages from lo to hi, for everything below the node; `left` levels may still be gone down.
+pub fn range_change(
+    nodes: &[u32],
+    mappings: &[u32],
+    notices: &mut [u32],
+    count: usize,
+    node: u32,
+    lo: u32,
+    hi: u32,
+    op: u32,
+    left: u32,
+) -> usize
+    ensures { λ r. ⌜ toldOf (now (notices .exit)) r ≡ rangeChange left (now (nodes .entry)) (now (mappings .entry)) node lo hi op (toldOf (now (notices .entry)) count) ⌝ }
+{
+    if left == 0 {
+        return count;
+    }
+    let n = tables::node_at(nodes, node);
+    let start = larger(n.parent_offset, lo);
+    let end = shorter(n.parent_limit, hi);
+    if start < end {
+        let a = start - n.parent_offset;
+        let e = end - n.parent_offset;
+        let told = tell_object(mappings, notices, count, node, a, e - a, op);
+        if n.is_hidden() {
+            let below = range_change(
+                nodes,
+                mappings,
+                notices,
+                told,
+                child(n.left),
+                a,
+                e,
+                op,
+                left - 1,
+            );
+            return range_change(
+                nodes,
+                mappings,
+                notices,
+                below,
+                child(n.right),
+                a,
+                e,
+                op,
+                left - 1,
+            );
+        }
+        return told;
+    }
+    count
+}
