@@ -1,0 +1,38 @@
+use Rattle.commit.proofs.Laws.{noted-step, noted-none, noted-bad}
+use borrow.Author.Needs.{needs}
+use Rattle.commit.proofs.commit_page.Statement.{statement}
+use Rattle.commit.proofs.commit_page.Tie as tie
+
+returns : tie.Need-returns
+returns c = noted-step 4096 _ _ _ _ (c .before .before .before .before .before .before .before .before .before .before .before .before .before .before .before .before .before .before .is-sound .ensures) (c .before .before .before .before .before .before .before .before .before .before .before .before .before .before .before .before .before .if1 .taken) (c .before .before .before .before .before .before .before .before .before .before .before .before .before .before .before .before .find-object .ensures) (c .before .before .before .before .before .before .before .before .before .before .before .before .before .before .found .given .1) (c .before .before .before .before .before .before .before .before .commit-at .ensures _)
+
+returns-2 : tie.Need-returns-2
+returns-2 c = rw (c .refused .ensures) (noted-none 4096 _ _ _ _ (c .before .before .before .before .before .is-sound .ensures) (c .before .before .before .before .if1 .taken) (c .before .before .before .find-object .ensures) (c .before .enum-told .given .1))
+
+returns-3 : tie.Need-returns-3
+returns-3 c = rw (c .refused2 .ensures) (noted-bad 4096 _ _ _ _ (c .before .before .is-sound .ensures) (c .before .if1 .left))
+
+pub commit-page-spec : {M : Type 1} → statement M
+commit-page-spec =
+    tie.close
+    (tie.spec
+    (λ c κs. search needs)
+    (λ c κs. search needs)
+    (λ c. search needs)
+    (λ c κs. search needs)
+    (λ c. search needs)
+    (λ c. search needs)
+    (λ c. search needs)
+    (λ c. search needs)
+    returns
+    (λ c. search needs)
+    (λ c κs. search needs)
+    (λ c. search needs)
+    (λ c. search needs)
+    (λ c. search needs)
+    returns-2
+    (λ c κs. search needs)
+    (λ c. search needs)
+    (λ c. search needs)
+    (λ c. search needs)
+    returns-3)

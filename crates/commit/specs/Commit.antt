@@ -1,0 +1,54 @@
+-- commit_page, 522, on a pool of pages of L bytes, refused calls too.
+use Prim.Native.Nat.{ℕ, _%_}
+use mathlib.Core.Bool.{Bool}
+use mathlib.Core.List.{List}
+use lib.Dec.{leb}
+use Rattle.logic.specs.Pick.{pick}
+use Rattle.tables.specs.Pool.{Pool, poolOf}
+use Rattle.tables.specs.Tables.{nodeOf}
+use Rattle.notices.specs.Notices.{toldOf}
+use Rattle.lookup.specs.declared.Looked.{Looked}
+use Rattle.lookup.specs.declared.Looked.the-variants.{Shared, Zero, Own, New, NoMemory, Stopped}
+use Rattle.lookup.specs.Work.{Looking, workOf}
+use Rattle.lookup.specs.Lookup.{look}
+use Rattle.pool.specs.declared.answer.Answer.{Answer}
+use Rattle.pool.specs.declared.answer.Answer.the-variants.{Done, Refused}
+use Rattle.pool.specs.declared.answer.Refusal as R
+use Rattle.pool.specs.declared.answer.Refusal.{Refusal}
+use Rattle.commit.specs.declared.Noted.{Noted}
+use Rattle.commit.specs.declared.Against.{Against}
+use Rattle.commit.specs.declared.Against.the-variants.{Why, Nothing as Fine}
+use Rattle.commit.specs.Noted.{Said, notedOf, onNoted, roomOf}
+
+abbrev pub refusedBy : Refusal → Noted
+refusedBy r = record { answer = Refused r; count = 0 }
+
+-- the frame, or 4,294,967,295 for the shared zero frame; a leaf hands up no frame
+abbrev pub lookedAnswer : Looked → Answer
+lookedAnswer (Shared f) = Done f
+lookedAnswer Zero = Done 4294967295
+lookedAnswer NoMemory = Refused R.the-variants.NoMemory
+lookedAnswer Stopped = Refused R.the-variants.Stopped
+lookedAnswer (Own f u) = Refused R.the-variants.Stopped
+lookedAnswer (New f) = Refused R.the-variants.Stopped
+
+unfoldable pub pageRefusal : List ℕ → List ℕ → List ℕ → ℕ → ℕ → Bool → Against
+pageRefusal N M list n page write =
+    pick (leb (nodeOf N n .size) page) (Why R.the-variants.OutOfRange)
+    (pick write (pick (roomOf M list 1) Fine (Why R.the-variants.NoRoom)) Fine)
+
+abbrev pub committed : Pool → Looking → Said
+committed p l =
+    notedOf (lookedAnswer (l .answer))
+    (poolOf (p .nodes) (l .work .pages) (l .work .used) (p .mappings) (p .head) (l .work .memory)) (l .work .told)
+
+unfoldable pub commitBy : ℕ → Pool → List ℕ → ℕ → ℕ → Bool → Against → Said
+commitBy L p list n page write (Why r) = notedOf (Refused r) p (toldOf list 0)
+commitBy L p list n page write Fine =
+    committed p (look L 64 (p .nodes) (p .mappings) (workOf (p .pages) (p .used) (p .memory) (toldOf list 0)) n (page % 4294967296) write n)
+
+unfoldable pub commitAt : ℕ → Pool → List ℕ → ℕ → ℕ → Bool → Said
+commitAt L p list n page write = commitBy L p list n page write (pageRefusal (p .nodes) (p .mappings) list n page write)
+
+abbrev pub commitPage : ℕ → Pool → List ℕ → ℕ → ℕ → Bool → Said
+commitPage L p list object page write = onNoted L p list object (λ n. commitAt L p list n page write)
