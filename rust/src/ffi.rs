@@ -45,6 +45,15 @@ exports! {
     goramul_append_mapping(object: u64, first: u64, count: u64, value: &mut u64) -> u32;
     goramul_remove_mapping(object: u64, mapping: u64, value: &mut u64) -> u32;
     goramul_forecast(object: u64, offset: u64, len: u64, value: &mut u64) -> u32;
+    goramul_commit_page(
+        notices: *mut u32,
+        notices_len: usize,
+        object: u64,
+        page: u64,
+        write: bool,
+        count: &mut u64,
+        value: &mut u64
+    ) -> u32;
     goramul_is_sound() -> bool;
 }
 
@@ -133,6 +142,32 @@ pub fn remove_mapping(tables: &mut Tables<'_>, object: u64, mapping: u64) -> Ans
 /// Whether free frames suffice for the range's absent pages; the value is 1 or 0.
 pub fn forecast(view: View<'_>, object: u64, offset: u64, len: u64) -> Answer {
     answered(|value| look!(goramul_forecast, view, object, offset, len, value))
+}
+
+/// One page's frame, for reading or writing; `count` tells how many notices are in the list, four
+/// words each.
+pub fn commit_page(
+    tables: &mut Tables<'_>,
+    notices: &mut [u32],
+    object: u64,
+    page: u64,
+    write: bool,
+    count: &mut u64,
+) -> Answer {
+    let (list, len) = (notices.as_mut_ptr(), notices.len());
+    answered(|value| {
+        change!(
+            goramul_commit_page,
+            tables,
+            list,
+            len,
+            object,
+            page,
+            write,
+            count,
+            value
+        )
+    })
 }
 
 /// The test that heads every call.

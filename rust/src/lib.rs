@@ -26,7 +26,7 @@ mod refusal;
 pub mod report;
 pub mod tables;
 
-pub use pool::{Mapping, Object, Pool};
+pub use pool::{Mapping, Notice, Notices, Object, Pool};
 pub use refusal::Refusal;
 pub use tables::{Store, Tables, View};
 pub use tables::{HEAD_LEN, MAPPINGS_LEN, NODES_LEN, PAGES_LEN};

@@ -5,10 +5,15 @@ use Rattle.tables.specs.Pool.{Pool}
 use Rattle.pool.specs.declared.answer.Answer.{Answer}
 use Rattle.pool.specs.Answers.{codeOf, valueOf}
 use Rattle.pool.specs.Calls.{Call, callOf}
-use Rattle.exports.specs.Exports.{Given, givenOf, given}
+use Rattle.exports.specs.Exports.{Given, givenOf, given, notedBy, givenNoted}
+use Rattle.notices.specs.Notices.{Told}
+use Rattle.commit.specs.Noted.{Said, notedOf}
 
 pub gives : (p : Pool) {k : Call} {r : Answer} {c v : ℕ} → callOf r p ≡ k → v ≡ valueOf r → c ≡ codeOf r → givenOf c v p ≡ given k
 gives p e h t = rw (← e, h, t)
 
 pub unique-given : {rule : Given} {c d v w : ℕ} {p q : Pool} → givenOf c v p ≡ rule → givenOf d w q ≡ rule → (c ≡ d) × (v ≡ w) × (p ≡ q)
 unique-given e f = let h = e ∙ sym f in (ap (λ (g : Given). g .code) h, ap (λ (g : Given). g .value) h, ap (λ (g : Given). g .pool) h)
+
+pub gives-noted : (p : Pool) (t : Told) {k : Said} {r : Answer} {c v : ℕ} → notedOf r p t ≡ k → v ≡ valueOf r → c ≡ codeOf r → notedBy c v p t ≡ givenNoted k
+gives-noted p t e h u = rw (← e, h, u)

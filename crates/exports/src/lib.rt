@@ -5,7 +5,9 @@ ghost use Rattle.sound.specs.Sound.{sound};
 ghost use Rattle.pool.specs.Calls.{start, new, len};
 ghost use Rattle.mapped.specs.Mapped.{appendMapping, removeMapping};
 ghost use Rattle.forecast.specs.Forecast.{forecast};
-ghost use Rattle.exports.specs.Exports.{givenOf, given};
+ghost use Rattle.notices.specs.Notices.{toldOf};
+ghost use Rattle.commit.specs.Commit.{commitPage};
+ghost use Rattle.exports.specs.Exports.{givenOf, given, notedBy, givenNoted};
 
 #[no_mangle]
 pub extern "C" fn goramul_start(
@@ -156,6 +158,43 @@ pub extern "C" fn goramul_forecast(
         offset,
         len,
     );
+    *value = answer.value();
+    answer.code()
+}
+
+#[no_mangle]
+pub extern "C" fn goramul_commit_page(
+    nodes: &[u32],
+    pages: &mut [u32],
+    used: &mut [u8],
+    mappings: &[u32],
+    head: &[u32],
+    memory: &mut [u8],
+    notices: &mut [u32],
+    object: u64,
+    page: u64,
+    write: bool,
+    count: &mut u64,
+    value: &mut u64,
+) -> u32
+    ensures { λ r. ⌜
+        notedBy r (now (value .exit)) (poolOf (now (nodes .entry)) (now (pages .exit)) (now (used .exit)) (now (mappings .entry)) (now (head .entry)) (now (memory .exit))) (toldOf (now (notices .exit)) (now (count .exit)))
+        ≡ givenNoted (commitPage 4096 (poolOf (now (nodes .entry)) (now (pages .entry)) (now (used .entry)) (now (mappings .entry)) (now (head .entry)) (now (memory .entry))) (now (notices .entry)) object page write) ⌝ }
+{
+    let noted = commit::commit_page(
+        nodes,
+        pages,
+        used,
+        mappings,
+        head,
+        memory,
+        notices,
+        object,
+        page,
+        write,
+    );
+    let answer = noted.answer;
+    *count = noted.count as u64;
     *value = answer.value();
     answer.code()
 }

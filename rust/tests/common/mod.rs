@@ -24,7 +24,7 @@ pub const BAD_POOL: Answer = Answer { code: 7, value: 0 };
 type Call = fn(&mut Tables<'_>) -> Answer;
 
 /// Every call that tests the pool.
-pub const CALLS: [(&str, Call); 5] = [
+pub const CALLS: [(&str, Call); 6] = [
     ("new", |tables| ffi::new(tables, 1)),
     ("len", |tables| ffi::len(tables.view(), 0)),
     ("append_mapping", |tables| {
@@ -32,6 +32,9 @@ pub const CALLS: [(&str, Call); 5] = [
     }),
     ("remove_mapping", |tables| ffi::remove_mapping(tables, 0, 0)),
     ("forecast", |tables| ffi::forecast(tables.view(), 0, 0, 0)),
+    ("commit_page", |tables| {
+        ffi::commit_page(tables, &mut [0; 256], 0, 0, true, &mut 0)
+    }),
 ];
 
 pub fn entry(frame: u32, tag: u32, pins: u32) -> u32 {

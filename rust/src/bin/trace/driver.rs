@@ -2,12 +2,14 @@
 
 use crate::lines::fields;
 use goramul::report::Report;
-use goramul::{Mapping, Object, Pool, Refusal};
+use goramul::{Mapping, Notices, Object, Pool, Refusal};
 use std::fmt::Write;
 
 const BAD_LINE: &str = "3 0";
 const FRAMES_AT_FIRST: usize = 6;
 const MOST_NOTICES: u64 = 4096;
+/// How a trace shows the page that has no frame.
+const ZERO_FRAME: u64 = 4_294_967_295;
 
 /// A letter, how many numbers follow it, and the call; it gives none for a number that makes the
 /// line bad.
@@ -29,6 +31,10 @@ const CALLS: &[Call] = &[
         let mapping = Mapping::from_number(n[1]);
         let removed = d.pool.remove_mapping(object(n[0]), mapping);
         Some(plain(removed.map(|()| 0)))
+    }),
+    (b'g', 3, |d, n| match n[2] {
+        0 | 1 => Some(d.commit_page(object(n[0]), n[1], n[2] == 1)),
+        _ => None,
     }),
     (b'f', 3, |d, n| {
         let forecast = d.pool.forecast(object(n[0]), n[1], n[2]);
@@ -110,6 +116,14 @@ impl Driver {
         }))
     }
 
+    fn commit_page(&mut self, object: Object, page: u64, write: bool) -> Answer {
+        let mut notices = Notices::with_room(self.room as usize);
+        let frame = self.pool.commit_page(object, page, write, &mut notices);
+        let mut answer = plain(frame.map(|frame| frame.unwrap_or(ZERO_FRAME)));
+        answer.notices = notices.iter().map(as_numbers).collect();
+        answer
+    }
+
     fn set_room(&mut self, room: u64) -> Answer {
         if room > MOST_NOTICES {
             return plain(Err(Refusal::InvalidArgs));
@@ -117,6 +131,10 @@ impl Driver {
         self.room = room;
         plain(Ok(0))
     }
+}
+
+fn as_numbers(notice: goramul::Notice) -> Notice {
+    [notice.mapping, notice.first, notice.pages, notice.op].map(u64::from)
 }
 
 fn object(number: u64) -> Object {
