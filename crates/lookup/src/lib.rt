@@ -34,7 +34,7 @@ pub struct Step {
 }
 
 // The parent is asked: there is one, and the page lies inside. (In a sound pool the sum is small.)
-fn asks(n: Node, page: u32) -> bool
+pub fn asks(n: Node, page: u32) -> bool
     ensures { λ r. ⌜ r ≡ asksOf n page ⌝ }
 {
     (n.parent != Node::NONE)
@@ -43,7 +43,7 @@ fn asks(n: Node, page: u32) -> bool
 }
 
 // An absent page that no parent is asked for.
-fn make_fresh(
+pub fn make_fresh(
     pages: &mut [u32],
     used: &mut [u8],
     memory: &mut [u8],
