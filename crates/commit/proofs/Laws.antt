@@ -6,13 +6,9 @@ use Prim.Native.Nat.{ℕ, _*_, _%_, _≤_, _<_}
 use native.Mathlib.Omega.{arith}
 use borrow.Author.Tests.{le-leb, lt-leb}
 use Rattle.node.specs.declared.Node.{Node}
-use Rattle.logic.specs.declared.Found.{Found}
-use Rattle.logic.specs.declared.Found.the-variants.{At, Nothing}
-use Rattle.tables.specs.Pool.{Pool, poolOf}
-use Rattle.sound.specs.Sound.{sound}
-use Rattle.pool.specs.Calls.{findObject}
+use Rattle.tables.specs.Pool.{poolOf}
 use Rattle.tables.specs.Tables.{nodeOf}
-use Rattle.notices.specs.Notices.{Told, toldOf}
+use Rattle.notices.specs.Notices.{toldOf}
 use Rattle.lookup.specs.declared.Looked.{Looked}
 use Rattle.lookup.specs.Work.{Work, workOf, lookingOf}
 use Rattle.lookup.specs.Lookup.{look}
@@ -20,10 +16,10 @@ use Rattle.pool.specs.declared.answer.Answer.{Answer}
 use Rattle.pool.specs.declared.answer.Answer.the-variants.{Refused}
 use Rattle.pool.specs.declared.answer.Refusal.{Refusal}
 use Rattle.pool.specs.declared.answer.Refusal as R
-use Rattle.commit.specs.declared.Against.{Against}
-use Rattle.commit.specs.declared.Against.the-variants.{Why, Nothing as Fine}
-use Rattle.commit.specs.Noted.{Said, notedOf, notedAt, onNoted, roomOf}
-use Rattle.commit.specs.Commit.{lookedAnswer, pageRefusal, commitBy, commitAt}
+use Rattle.pool.specs.declared.answer.Against.{Against}
+use Rattle.pool.specs.declared.answer.Against.the-variants.{Why, Nothing as Fine}
+use Rattle.commit.specs.Noted.{notedOf, roomOf}
+use Rattle.commit.specs.Commit.{lookedAnswer, pageRefusal, commitAt}
 
 module _ (N M list : List ℕ) (n page : ℕ) {r : Node} (e : r ≡ nodeOf N n) where
   pub page-out : (write : Bool) → r .size ≤ page → Why R.the-variants.OutOfRange ≡ pageRefusal N M list n page write
@@ -44,23 +40,9 @@ module _ (N M list : List ℕ) (n page : ℕ) {r : Node} (e : r ≡ nodeOf N n) 
 
 module _ (N P U M H Y list : List ℕ) (n page : ℕ) (write : Bool) {a : Against} (e : a ≡ pageRefusal N M list n page write) where
   pub commit-refused : {r : Refusal} → a ≡ Why r → notedOf (Refused r) (poolOf N P U M H Y) (toldOf list 0) ≡ commitAt 4096 (poolOf N P U M H Y) list n page write
-  unfolding commitAt commitBy
+  unfolding commitAt
   commit-refused h = rw (sym e ∙ h)
 
   pub commit-done : {k : Looked} {w : Work} {r : Answer} → a ≡ Fine → lookingOf k w ≡ look 4096 64 N M (workOf P U Y (toldOf list 0)) n (page % 4294967296) write n → r ≡ lookedAnswer k → notedOf r (poolOf N (w .pages) (w .used) M H (w .memory)) (w .told) ≡ commitAt 4096 (poolOf N P U M H Y) list n page write
-  unfolding commitAt commitBy
+  unfolding commitAt
   commit-done h l r = rw (sym e ∙ h, ← l, r)
-
--- the head of a call that sends notices
-module _ (L : ℕ) (p : Pool) (list : List ℕ) (object : ℕ) (does : ℕ → Said) {b : Bool} (t : b ≡ sound L p) where
-  pub noted-step : {f : Found} {n : ℕ} {c : Said} → b ≡ true → f ≡ findObject (p .nodes) object → f ≡ At n → c ≡ does n → c ≡ onNoted L p list object does
-  unfolding onNoted notedAt
-  noted-step h f e a = rw (sym t ∙ h, sym f ∙ e) a
-
-  pub noted-none : {f : Found} → b ≡ true → f ≡ findObject (p .nodes) object → f ≡ Nothing → notedOf (Refused R.the-variants.NoObject) p (toldOf list 0) ≡ onNoted L p list object does
-  unfolding onNoted notedAt
-  noted-none h f e = rw (sym t ∙ h, sym f ∙ e)
-
-  pub noted-bad : b ≡ false → notedOf (Refused R.the-variants.BadPool) p (toldOf list 0) ≡ onNoted L p list object does
-  unfolding onNoted
-  noted-bad h = rw (sym t ∙ h)

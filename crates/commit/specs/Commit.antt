@@ -16,9 +16,11 @@ use Rattle.pool.specs.declared.answer.Answer.the-variants.{Done, Refused}
 use Rattle.pool.specs.declared.answer.Refusal as R
 use Rattle.pool.specs.declared.answer.Refusal.{Refusal}
 use Rattle.commit.specs.declared.Noted.{Noted}
-use Rattle.commit.specs.declared.Against.{Against}
-use Rattle.commit.specs.declared.Against.the-variants.{Why, Nothing as Fine}
-use Rattle.commit.specs.Noted.{Said, notedOf, onNoted, roomOf}
+use Rattle.pool.specs.declared.answer.Against.{Against}
+use Rattle.pool.specs.declared.answer.Against.the-variants.{Why, Nothing as Fine}
+use Rattle.pool.specs.Answers.{unless}
+use Rattle.pool.specs.Calls.{onNode}
+use Rattle.commit.specs.Noted.{Said, notedOf, refusedOf, roomOf}
 
 abbrev pub refusedBy : Refusal → Noted
 refusedBy r = record { answer = Refused r; count = 0 }
@@ -42,13 +44,10 @@ committed p l =
     notedOf (lookedAnswer (l .answer))
     (poolOf (p .nodes) (l .work .pages) (l .work .used) (p .mappings) (p .head) (l .work .memory)) (l .work .told)
 
-unfoldable pub commitBy : ℕ → Pool → List ℕ → ℕ → ℕ → Bool → Against → Said
-commitBy L p list n page write (Why r) = notedOf (Refused r) p (toldOf list 0)
-commitBy L p list n page write Fine =
-    committed p (look L 64 (p .nodes) (p .mappings) (workOf (p .pages) (p .used) (p .memory) (toldOf list 0)) n (page % 4294967296) write n)
-
 unfoldable pub commitAt : ℕ → Pool → List ℕ → ℕ → ℕ → Bool → Said
-commitAt L p list n page write = commitBy L p list n page write (pageRefusal (p .nodes) (p .mappings) list n page write)
+commitAt L p list n page write =
+    unless (pageRefusal (p .nodes) (p .mappings) list n page write) (refusedOf p list)
+    (committed p (look L 64 (p .nodes) (p .mappings) (workOf (p .pages) (p .used) (p .memory) (toldOf list 0)) n (page % 4294967296) write n))
 
 abbrev pub commitPage : ℕ → Pool → List ℕ → ℕ → ℕ → Bool → Said
-commitPage L p list object page write = onNoted L p list object (λ n. commitAt L p list n page write)
+commitPage L p list object page write = onNode L p object (refusedOf p list) (λ n. commitAt L p list n page write)

@@ -8,13 +8,9 @@ use Rattle.logic.specs.Pick.{pick}
 use Rattle.logic.specs.Below.{sumBelow}
 use Rattle.tables.specs.Pool.{Pool}
 use Rattle.tables.specs.Tables.{numberOf}
-use Rattle.logic.specs.declared.Found.{Found}
-use Rattle.logic.specs.declared.Found.the-variants.{At, Nothing}
 use Rattle.notices.specs.Notices.{Told, toldOf}
-use Rattle.sound.specs.Sound.{sound}
-use Rattle.pool.specs.Calls.{findObject}
 use Rattle.pool.specs.declared.answer.Answer.the-variants.{Refused}
-use Rattle.pool.specs.declared.answer.Refusal.the-variants.{BadPool, NoObject}
+use Rattle.pool.specs.declared.answer.Refusal.{Refusal}
 use Rattle.pool.specs.declared.answer.Answer.{Answer}
 
 pub record Said : Type 0 where
@@ -25,14 +21,9 @@ pub record Said : Type 0 where
 abbrev pub notedOf : Answer → Pool → Told → Said
 notedOf a p t = record { answer = a; pool = p; told = t }
 
--- a call on an object that sends notices: BAD_POOL, then NO_OBJECT, then what the call does with the object's node
-unfoldable pub notedAt : Pool → List ℕ → (ℕ → Said) → Found → Said
-notedAt p list does (At n) = does n
-notedAt p list does Nothing = notedOf (Refused NoObject) p (toldOf list 0)
-
-unfoldable pub onNoted : ℕ → Pool → List ℕ → ℕ → (ℕ → Said) → Said
-onNoted L p list object does =
-    pick (sound L p) (notedAt p list does (findObject (p .nodes) object)) (notedOf (Refused BadPool) p (toldOf list 0))
+-- a refusal leaves the pool as it was and sends nothing
+abbrev pub refusedOf : Pool → List ℕ → Refusal → Said
+refusedOf p list r = notedOf (Refused r) p (toldOf list 0)
 
 unfoldable pub liveOne : List ℕ → ℕ → ℕ
 liveOne M i = pick (eqb (numberOf M i) 0) 0 1

@@ -1,6 +1,7 @@
 // The call commit_page (paged.rs 522): one page looked up for reading or for writing.
 use logic::Found;
 use lookup::Looked;
+use pool::Against;
 use pool::Answer;
 use pool::Refusal;
 ghost use mathlib.Core.Path.{_≡_};
@@ -15,12 +16,6 @@ ghost use Rattle.commit.specs.Commit.{refusedBy, lookedAnswer, pageRefus
 pub struct Noted {
     pub answer: Answer,
     pub count: usize,
-}
-
-// Why a page can't be committed, or Nothing against it.
-pub enum Against {
-    Why(Refusal),
-    Nothing,
 }
 
 fn live_one(mappings: &[u32], place: u32) -> u32
@@ -118,7 +113,7 @@ fn commit_at(
         }
         Against::Nothing => {
             let i = (page % 4294967296) as u32;
-            let step = lookup::lookup(
+            let step = seek::find_page(
                 nodes,
                 mappings,
                 pages,
@@ -129,8 +124,6 @@ fn commit_at(
                 node,
                 i,
                 write,
-                node,
-                64,
             );
             let looked = step.looked;
             let answer = looked_answer(looked);

@@ -10,7 +10,7 @@ use lib.ListN.{length, getD, set}
 use borrow.Author.Tests.{le-leb, lt-leb, lt-ltb}
 use Rattle.logic.specs.Below.{copied, zeroed}
 use Rattle.logic.proofs.Laws.{copied-outside}
-use Rattle.frames.specs.Frames.{idleOf, pastedAt, clearedAt, copiedAt}
+use Rattle.frames.specs.Frames.{idleOf, pastedAt, blankAt, clearedAt, copiedAt}
 
 pub idle-in : (used : List ℕ) (f : ℕ) → f < length used → eqb (getD used f 0) 0 ≡ idleOf used f
 unfolding idleOf
@@ -44,6 +44,11 @@ module _ (d : List ℕ) (a : ℕ) (s : List ℕ) (b n : ℕ) where
   unfolding pastedAt
   paste-past p = simp (lt-leb _ _ p)
 
-pub clear-all : (m : List ℕ) (f : ℕ) {k : ℕ} {t : List ℕ} → f * 4096 + 4096 ≤ length m → k ≡ 4096 → t ≡ zeroed m (f * 4096) k → t ≡ clearedAt 4096 m f
-unfolding clearedAt
-clear-all m f p h e = e ∙ rw h (simp (le-leb _ _ p))
+module _ (d : List ℕ) (a n : ℕ) where
+  pub blank-all : {k : ℕ} {t : List ℕ} → a + n ≤ length d → k ≡ n → t ≡ zeroed d a k → t ≡ blankAt d a n
+  unfolding blankAt
+  blank-all p h e = e ∙ rw h (simp (le-leb _ _ p))
+
+  pub blank-past : length d < a + n → d ≡ blankAt d a n
+  unfolding blankAt
+  blank-past p = simp (lt-leb _ _ p)

@@ -35,6 +35,10 @@ givenOf f used = set used f 0
 unfoldable pub pastedAt : List ℕ → ℕ → List ℕ → ℕ → ℕ → List ℕ
 pastedAt d a s b n = pick (leb (a + n) (length d)) (pick (leb (b + n) (length s)) (copied d a s b n) d) d
 
+-- n zeros put into d from a on, where it holds them
+unfoldable pub blankAt : List ℕ → ℕ → ℕ → List ℕ
+blankAt d a n = pick (leb (a + n) (length d)) (zeroed d a n) d
+
 -- a frame cleared: PhysFrame::new_zero
 unfoldable pub clearedAt : ℕ → List ℕ → ℕ → List ℕ
 clearedAt L m f = pick (leb (f * L + L) (length m)) (zeroed m (f * L) L) m

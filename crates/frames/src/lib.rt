@@ -2,9 +2,9 @@
 use logic::Found;
 ghost use mathlib.Core.Path.{_≡_};
 ghost use mathlib.Core.Bool.{_&&_};
-ghost use Prim.Native.Nat.{_*_, _+_, _^_, _≤_, _<_};
-ghost use lib.ListN.{length, set};
-ghost use Rattle.frames.specs.Frames.{idleOf, oneIdle, freeCount, freeFrameIn, takenOf, givenOf, clearedAt, copiedAt, pastedAt};
+ghost use Prim.Native.Nat.{_+_, _^_, _≤_, _<_};
+ghost use lib.ListN.{set};
+ghost use Rattle.frames.specs.Frames.{idleOf, oneIdle, freeCount, freeFrameIn, takenOf, givenOf, clearedAt, copiedAt, pastedAt, blankAt};
 
 fn is_idle(used: &[u8], frame: u32) -> bool
     ensures { λ r. ⌜ r ≡ idleOf (now (used .entry)) frame ⌝ }
@@ -84,14 +84,7 @@ pub fn give_frame(used: &mut [u8], frame: u32)
 pub fn clear_frame(memory: &mut [u8], frame: u32)
     ensures { λ _. ⌜ now (memory .exit) ≡ clearedAt 4096 (now (memory .entry)) frame ⌝ }
 {
-    let a = frame as usize * 4096;
-    if a + 4096 <= memory.len() {
-        let mut k = 0;
-        while k < 4096 {
-            memory[a + k] = 0;
-            k += 1;
-        }
-    }
+    blank(memory, frame as usize * 4096, 4096);
 }
 
 pub fn copy_frame(memory: &mut [u8], to: u32, from: u32)
@@ -111,7 +104,7 @@ pub fn copy_frame(memory: &mut [u8], to: u32, from: u32)
 }
 
 // n bytes of src, from b on, put into dst from a on, where both hold them.
-fn copy_bytes(dst: &mut [u8], a: usize, src: &[u8], b: usize, n: usize)
+pub fn paste(dst: &mut [u8], a: usize, src: &[u8], b: usize, n: usize)
     requires { ⌜ (a + n < 2 ^ 64) × (b + n < 2 ^ 64) ⌝ }
     ensures { λ _. ⌜ now (dst .exit) ≡ pastedAt (now (dst .entry)) a (now (src .entry)) b n ⌝ }
 {
@@ -126,18 +119,16 @@ fn copy_bytes(dst: &mut [u8], a: usize, src: &[u8], b: usize, n: usize)
     }
 }
 
-// Bytes into a frame, from a place in it on.
-pub fn store(memory: &mut [u8], frame: u32, at: u32, bytes: &[u8])
-    ensures { λ _. ⌜ now (memory .exit) ≡ pastedAt (now (memory .entry)) (frame * 4096 + at) (now (bytes .entry)) 0 (length (now (bytes .entry))) ⌝ }
+// n zeros put into dst from a on, where it holds them.
+pub fn blank(dst: &mut [u8], a: usize, n: usize)
+    requires { ⌜ a + n < 2 ^ 64 ⌝ }
+    ensures { λ _. ⌜ now (dst .exit) ≡ blankAt (now (dst .entry)) a n ⌝ }
 {
-    let n = bytes.len();
-    copy_bytes(memory, frame as usize * 4096 + at as usize, bytes, 0, n);
-}
-
-// Bytes out of a frame.
-pub fn fetch(memory: &[u8], frame: u32, at: u32, buf: &mut [u8])
-    ensures { λ _. ⌜ now (buf .exit) ≡ pastedAt (now (buf .entry)) 0 (now (memory .entry)) (frame * 4096 + at) (length (now (buf .entry))) ⌝ }
-{
-    let n = buf.len();
-    copy_bytes(buf, 0, memory, frame as usize * 4096 + at as usize, n);
+    if a + n <= dst.len() {
+        let mut k = 0;
+        while k < n {
+            dst[a + k] = 0;
+            k += 1;
+        }
+    }
 }

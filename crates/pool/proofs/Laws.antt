@@ -15,8 +15,9 @@ use Rattle.tables.specs.Pool.{Pool, poolOf}
 use Rattle.tables.specs.Tables.{nodeOf, withNode, freeNodeIn}
 use Rattle.sound.specs.Sound.{lengthsOk, sound}
 use Rattle.pool.specs.declared.answer.Answer.the-variants.{Done, Refused}
+use Rattle.pool.specs.declared.answer.Refusal.{Refusal}
 use Rattle.pool.specs.declared.answer.Refusal.the-variants.{InvalidArgs, BadPool, NoObject, NoNode}
-use Rattle.pool.specs.Calls.{Call, callOf, refused, freshPool, start, leafAt, newLeaf, new, findObject, atNode, onObject}
+use Rattle.pool.specs.Calls.{Call, callOf, refused, freshPool, start, leafAt, newLeaf, new, findObject, atNode, onNode}
 
 append-nil : (l : List ℕ) → l ++ [] ≡ l
 append-nil [] = refl
@@ -64,17 +65,17 @@ module _ (L : ℕ) (p : Pool) {b : Bool} (t : b ≡ sound L p) where
   new-bad size h = rw (sym t ∙ h)
 
 -- the ways through a call on an object
-module _ (L : ℕ) (p : Pool) (object : ℕ) (does : ℕ → Call) {b : Bool} (t : b ≡ sound L p) where
-  pub object-step : {f : Found} {n : ℕ} {c : Call} → b ≡ true → f ≡ findObject (p .nodes) object → f ≡ At n → c ≡ does n → c ≡ onObject L p object does
-  unfolding onObject atNode
+module _ {A : Type 0} (L : ℕ) (p : Pool) (object : ℕ) (refuse : Refusal → A) (does : ℕ → A) {b : Bool} (t : b ≡ sound L p) where
+  pub object-step : {f : Found} {n : ℕ} {c : A} → b ≡ true → f ≡ findObject (p .nodes) object → f ≡ At n → c ≡ does n → c ≡ onNode L p object refuse does
+  unfolding onNode atNode
   object-step h f e a = rw (sym t ∙ h, sym f ∙ e) a
 
-  pub object-none : {f : Found} → b ≡ true → f ≡ findObject (p .nodes) object → f ≡ Nothing → refused NoObject p ≡ onObject L p object does
-  unfolding onObject atNode
+  pub object-none : {f : Found} → b ≡ true → f ≡ findObject (p .nodes) object → f ≡ Nothing → refuse NoObject ≡ onNode L p object refuse does
+  unfolding onNode atNode
   object-none h f e = rw (sym t ∙ h, sym f ∙ e)
 
-  pub object-bad : b ≡ false → refused BadPool p ≡ onObject L p object does
-  unfolding onObject
+  pub object-bad : b ≡ false → refuse BadPool ≡ onNode L p object refuse does
+  unfolding onNode
   object-bad h = rw (sym t ∙ h)
 
 module _ (L : ℕ) (N P U M H Y : List ℕ) {b : Bool} (t : b ≡ lengthsOk L (poolOf N P U M H Y)) where

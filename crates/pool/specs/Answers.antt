@@ -2,6 +2,8 @@
 use Prim.Native.Nat.{ℕ}
 use Rattle.pool.specs.declared.answer.Answer.{Answer}
 use Rattle.pool.specs.declared.answer.Answer.the-variants.{Done, Refused}
+use Rattle.pool.specs.declared.answer.Against.{Against}
+use Rattle.pool.specs.declared.answer.Against.the-variants.{Why, Nothing as Fine}
 use Rattle.pool.specs.declared.answer.Refusal.{Refusal}
 use Rattle.pool.specs.declared.answer.Refusal.the-variants.{OutOfRange, BadState, InvalidArgs, NoMemory, NotSupported, Unavailable, BadPool, NoObject, NoNode, NoRoom, Stopped, PinLedger}
 
@@ -26,3 +28,8 @@ codeOf (Refused r) = refusalNumber r
 abbrev pub valueOf : Answer → ℕ
 valueOf (Done v) = v
 valueOf (Refused r) = 0
+
+-- a call's tests found why it is refused, or it does its work
+abbrev pub unless : {A : Type 0} → Against → (Refusal → A) → A → A
+unless (Why r) refuse does = refuse r
+unless Fine refuse does = does

@@ -54,12 +54,15 @@ unfoldable pub findObject : List ℕ → ℕ → Found
 findObject nodes object = pick (ltb object 64) (pick (leafOf (nodeOf nodes object)) (At object) Nothing) Nothing
 
 -- a call on an object: BAD_POOL, then NO_OBJECT, then what the call does with the object's node
-unfoldable pub atNode : Pool → (ℕ → Call) → Found → Call
-atNode p does (At n) = does n
-atNode p does Nothing = refused NoObject p
+unfoldable pub atNode : {A : Type 0} → (Refusal → A) → (ℕ → A) → Found → A
+atNode refuse does (At n) = does n
+atNode refuse does Nothing = refuse NoObject
 
-unfoldable pub onObject : ℕ → Pool → ℕ → (ℕ → Call) → Call
-onObject L p object does = pick (sound L p) (atNode p does (findObject (p .nodes) object)) (refused BadPool p)
+unfoldable pub onNode : {A : Type 0} → ℕ → Pool → ℕ → (Refusal → A) → (ℕ → A) → A
+onNode L p object refuse does = pick (sound L p) (atNode refuse does (findObject (p .nodes) object)) (refuse BadPool)
+
+abbrev pub onObject : ℕ → Pool → ℕ → (ℕ → Call) → Call
+onObject L p object does = onNode L p object (λ r. refused r p) does
 
 -- len, 272, in bytes
 unfoldable pub lenOf : ℕ → List ℕ → ℕ → Answer

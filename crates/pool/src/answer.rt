@@ -22,6 +22,12 @@ pub enum Answer {
     Refused(Refusal),
 }
 
+// What a call's tests found against it.
+pub enum Against {
+    Why(Refusal),
+    Nothing,
+}
+
 impl Refusal {
     pub fn number(self) -> u32
         ensures { λ r. ⌜ r ≡ refusalNumber self ⌝ }

@@ -2,6 +2,7 @@
 mod answer;
 mod steps;
 
+pub use answer::Against;
 pub use answer::Answer;
 pub use answer::Refusal;
 use logic::Found;

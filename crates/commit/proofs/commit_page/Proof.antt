@@ -1,16 +1,16 @@
-use Rattle.commit.proofs.Laws.{noted-step, noted-none, noted-bad}
+use Rattle.pool.proofs.Laws.{object-step, object-none, object-bad}
 use borrow.Author.Needs.{needs}
 use Rattle.commit.proofs.commit_page.Statement.{statement}
 use Rattle.commit.proofs.commit_page.Tie as tie
 
 returns : tie.Need-returns
-returns c = noted-step 4096 _ _ _ _ (c .before .before .before .before .before .before .before .before .before .before .before .before .before .before .before .before .before .before .is-sound .ensures) (c .before .before .before .before .before .before .before .before .before .before .before .before .before .before .before .before .before .if1 .taken) (c .before .before .before .before .before .before .before .before .before .before .before .before .before .before .before .before .find-object .ensures) (c .before .before .before .before .before .before .before .before .before .before .before .before .before .before .found .given .1) (c .before .before .before .before .before .before .before .before .commit-at .ensures _)
+returns c = object-step 4096 _ _ _ _ (c .before .before .before .before .before .before .before .before .before .before .before .before .before .before .before .before .before .before .is-sound .ensures) (c .before .before .before .before .before .before .before .before .before .before .before .before .before .before .before .before .before .if1 .taken) (c .before .before .before .before .before .before .before .before .before .before .before .before .before .before .before .before .find-object .ensures) (c .before .before .before .before .before .before .before .before .before .before .before .before .before .before .found .given .1) (c .before .before .before .before .before .before .before .before .commit-at .ensures _)
 
 returns-2 : tie.Need-returns-2
-returns-2 c = rw (c .refused .ensures) (noted-none 4096 _ _ _ _ (c .before .before .before .before .before .is-sound .ensures) (c .before .before .before .before .if1 .taken) (c .before .before .before .find-object .ensures) (c .before .enum-told .given .1))
+returns-2 c = rw (c .refused .ensures) (object-none 4096 _ _ _ _ (c .before .before .before .before .before .is-sound .ensures) (c .before .before .before .before .if1 .taken) (c .before .before .before .find-object .ensures) (c .before .enum-told .given .1))
 
 returns-3 : tie.Need-returns-3
-returns-3 c = rw (c .refused2 .ensures) (noted-bad 4096 _ _ _ _ (c .before .before .is-sound .ensures) (c .before .if1 .left))
+returns-3 c = rw (c .refused2 .ensures) (object-bad 4096 _ _ _ _ (c .before .before .is-sound .ensures) (c .before .if1 .left))
 
 pub commit-page-spec : {M : Type 1} → statement M
 commit-page-spec =

@@ -4,13 +4,13 @@ use Rattle.mapped.proofs.remove_mapping.Statement.{statement}
 use Rattle.mapped.proofs.remove_mapping.Tie as tie
 
 returns : tie.Need-returns
-returns c = object-step 4096 _ _ _ (c .before .before .before .before .before .before .before .before .before .is-sound .ensures) (c .before .before .before .before .before .before .before .before .if1 .taken) (c .before .before .before .before .before .before .before .find-object .ensures) (c .before .before .before .before .before .found .given .1) (c .before .before .remove-at .ensures _ _ _ _ _)
+returns c = object-step 4096 _ _ _ _ (c .before .before .before .before .before .before .before .before .before .is-sound .ensures) (c .before .before .before .before .before .before .before .before .if1 .taken) (c .before .before .before .before .before .before .before .find-object .ensures) (c .before .before .before .before .before .found .given .1) (c .before .before .remove-at .ensures _ _ _ _ _)
 
 returns-2 : tie.Need-returns-2
-returns-2 c = object-none 4096 _ _ _ (c .before .before .before .before .is-sound .ensures) (c .before .before .before .if1 .taken) (c .before .before .find-object .ensures) (c .enum-told .given .1)
+returns-2 c = object-none 4096 _ _ _ _ (c .before .before .before .before .is-sound .ensures) (c .before .before .before .if1 .taken) (c .before .before .find-object .ensures) (c .enum-told .given .1)
 
 returns-3 : tie.Need-returns-3
-returns-3 c = object-bad 4096 _ _ _ (c .before .is-sound .ensures) (c .if1 .left)
+returns-3 c = object-bad 4096 _ _ _ _ (c .before .is-sound .ensures) (c .if1 .left)
 
 pub remove-mapping-spec : {M : Type 1} → statement M
 remove-mapping-spec =

@@ -5,8 +5,8 @@ use lib.ListN.{length, length-set}
 use Rattle.logic.specs.Below.{copied}
 use Rattle.frames.proofs.Laws.{paste-turn, paste-all, paste-short, paste-past}
 use borrow.Author.Needs.{needs}
-use Rattle.frames.proofs.copy_bytes.Statement.{statement}
-use Rattle.frames.proofs.copy_bytes.Tie as tie
+use Rattle.frames.proofs.paste.Statement.{statement}
+use Rattle.frames.proofs.paste.Tie as tie
 
 abbrev Inv-loop : tie.InvT-loop
 Inv-loop dst₀ a src b n k₀ dst k = (k ≤ n) × (length dst ≡ length dst₀) × (dst ≡ copied dst₀ a src b k)
@@ -32,8 +32,8 @@ returns-2 c = paste-short _ _ _ _ _ (c .before .if1 .taken) (c .if2 .left)
 returns-3 : tie.Need-returns-3 Inv-loop μ-loop
 returns-3 c = paste-past _ _ _ _ _ (c .if1 .left)
 
-pub copy-bytes-spec : {M : Type 1} → statement M
-copy-bytes-spec =
+pub paste-spec : {M : Type 1} → statement M
+paste-spec =
     tie.close
     (tie.spec
     Inv-loop
