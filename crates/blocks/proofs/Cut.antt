@@ -1,13 +1,14 @@
 -- The cut of a range at page boundaries: blocks lie inside their pages, touch one another, and end where the range does. Assumes nothing.
-use mathlib.Core.Path.{_≡_, refl}
+use mathlib.Core.Path.{_≡_, refl, sym, ap, subst, _∙_}
 use mathlib.Core.Bool.{Bool, true, false}
 use Prim.Native.Nat.{ℕ, _+_, _-_, _*_, _/_, _%_, _≤_, _<_}
 use native.Mathlib.Omega.{arith}
-use lib.Dec.{eqb}
-use borrow.Author.Tests.{le-leb, lt-leb, eqb-true, eqb-false}
+use lib.Dec.{eqb, leb}
+use borrow.Author.Tests.{le-leb, lt-leb, leb-true, leb-false, eqb-true, eqb-false}
 use Rattle.logic.specs.Pick.{pick}
 use Rattle.blocks.specs.declared.BlockIter.{BlockIter}
 use Rattle.blocks.specs.declared.BlockRange.{BlockRange}
+use Rattle.blocks.specs.declared.Next.{Next}
 use Rattle.blocks.specs.declared.Next.the-variants.{Block, Done}
 use Rattle.blocks.specs.Blocks.{iterOf, rangeOf, blockEnd, nextBy, nextOf}
 
@@ -49,3 +50,30 @@ cut it h =
       next = rw (lt-leb _ _ h);
       first = first-by (eqb (it .begin / 4096) (it .end / 4096)) (it .begin) (it .end) refl h;
     }
+
+-- the same from what `next` answers
+blockIn : BlockRange → Next → BlockRange
+blockIn d (Block b r) = b
+blockIn d Done = d
+
+restIn : BlockIter → Next → BlockIter
+restIn d (Block b r) = r
+restIn d Done = d
+
+isBlock : Next → ℕ
+isBlock (Block b r) = 1
+isBlock Done = 0
+
+first-when : (it : BlockIter) (b : BlockRange) (r : BlockIter) (t : Bool) → leb (it .end) (it .begin) ≡ t → nextOf 4096 it ≡ Block b r → First it b r
+unfolding blockIn restIn isBlock
+first-when it b r true t e =
+    let d = none 4096 it (leb-true _ _ t) in
+    let z : _≡_ {A = ℕ} 0 1 = ap isBlock (sym d ∙ e) in
+    absurd (omega (arith, z))
+first-when it b r false t e =
+    let k = cut it (leb-false _ _ t) in
+    let h = sym (k .next) ∙ e in
+    subst (λ (x : BlockIter). First it b x) (ap (restIn r) h) (subst (λ (x : BlockRange). First it x (k .rest)) (ap (blockIn b) h) (k .first))
+
+pub first-of : (it : BlockIter) {b : BlockRange} {r : BlockIter} {n : Next} → n ≡ nextOf 4096 it → n ≡ Block b r → First it b r
+first-of it {b} {r} e h = first-when it b r _ refl (sym e ∙ h)

@@ -42,11 +42,11 @@ fn live_count(mappings: &[u32]) -> u32
 }
 
 // The list takes as many notices as the pages touched times the live mappings.
-pub fn has_room(mappings: &[u32], notices: &[u32], pages: u32) -> bool
-    requires { ⌜ pages ≤ 65 ⌝ }
+pub fn has_room(mappings: &[u32], notices: &[u32], pages: u64) -> bool
+    requires { ⌜ pages ≤ 17592186044416 ⌝ }
     ensures { λ r. ⌜ r ≡ roomOf (now (mappings .entry)) (now (notices .entry)) pages ⌝ }
 {
-    (pages * live_count(mappings)) as usize <= notices.len() / 4
+    pages * live_count(mappings) as u64 <= (notices.len() / 4) as u64
 }
 
 fn looked_answer(looked: Looked) -> Answer

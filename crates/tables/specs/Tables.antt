@@ -1,5 +1,5 @@
 -- Records read from the lent tables and written there.
-use Prim.Native.Nat.{ℕ, _+_, _*_}
+use Prim.Native.Nat.{ℕ, _+_, _-_, _*_}
 use mathlib.Core.Bool.{Bool}
 use mathlib.Core.List.{List}
 use lib.Dec.{eqb, leb, ltb}
@@ -74,3 +74,7 @@ isFree nodes n = eqb (wordOf nodes n 0) 0
 -- the lowest free node
 unfoldable pub freeNodeIn : List ℕ → Found
 freeNodeIn nodes = firstFrom (isFree nodes) 0 64
+
+-- the lowest free node from k on
+unfoldable pub freeNodeFrom : List ℕ → ℕ → Found
+freeNodeFrom nodes k = firstFrom (isFree nodes) k (64 - k)

@@ -8,12 +8,9 @@ use Rattle.commit.proofs.has_room.Tie as tie
 mul-result : tie.Need-mul-result
 mul-result c = omega (arith, mul-le-mul (c .before .before .before .pre) (c .live-count .ensures .1))
 
-cast-result : tie.Need-cast-result
-cast-result c = omega (arith, mul-le-mul (c .before .before .before .pre) (c .live-count .ensures .1))
-
 returns : tie.Need-returns
 unfolding roomOf
 returns c = rw (← (c .live-count .ensures .0))
 
 pub has-room-spec : {M : Type 1} → statement M
-has-room-spec = tie.close (tie.spec (λ c κs. search needs) mul-result cast-result returns)
+has-room-spec = tie.close (tie.spec (λ c κs. search needs) (λ c. search needs) mul-result returns)
