@@ -5,7 +5,7 @@ use Rattle.tables.specs.Pool.{Pool}
 use Rattle.pool.specs.declared.answer.Answer.{Answer}
 use Rattle.pool.specs.Answers.{codeOf, valueOf}
 use Rattle.pool.specs.Calls.{Call, callOf}
-use Rattle.exports.specs.Exports.{Given, givenOf, given, notedBy, givenNoted}
+use Rattle.exports.specs.Exports.{Given, givenOf, given, GivenNoted, notedBy, givenNoted}
 use Rattle.notices.specs.Notices.{Told}
 use Rattle.commit.specs.Noted.{Said, notedOf}
 
@@ -17,3 +17,8 @@ unique-given e f = let h = e ∙ sym f in (ap (λ (g : Given). g .code) h, ap (�
 
 pub gives-noted : (p : Pool) (t : Told) {k : Said} {r : Answer} {c v : ℕ} → notedOf r p t ≡ k → v ≡ valueOf r → c ≡ codeOf r → notedBy c v p t ≡ givenNoted k
 gives-noted p t e h u = rw (← e, h, u)
+
+pub unique-noted : {rule : GivenNoted} {c d v w : ℕ} {p q : Pool} {t u : Told} → notedBy c v p t ≡ rule → notedBy d w q u ≡ rule → (c ≡ d) × (v ≡ w) × (p ≡ q) × (t ≡ u)
+unique-noted e f =
+    let h = e ∙ sym f in
+    (ap (λ (g : GivenNoted). g .code) h, ap (λ (g : GivenNoted). g .value) h, ap (λ (g : GivenNoted). g .pool) h, ap (λ (g : GivenNoted). g .told) h)

@@ -5,16 +5,19 @@ use mathlib.Core.List.{List}
 use Prim.Native.Nat.{ℕ, _+_, _*_, _≤_, _<_}
 use native.Mathlib.Omega.{arith}
 use native.Mathlib.Numerals.{add-one}
-use lib.Dec.{eqb}
 use lib.ListN.{length, getD, set}
-use borrow.Author.Tests.{le-leb, lt-leb, lt-ltb}
+use borrow.Author.Tests.{le-leb, lt-leb}
 use Rattle.logic.specs.Below.{copied, zeroed}
 use Rattle.logic.proofs.Laws.{copied-outside}
+<<<<<<< HEAD
 use Rattle.frames.specs.Frames.{idleOf, pastedAt, blankAt, clearedAt, copiedAt}
 
 pub idle-in : (used : List ℕ) (f : ℕ) → f < length used → eqb (getD used f 0) 0 ≡ idleOf used f
 unfolding idleOf
 idle-in used f h = rw (lt-ltb _ _ h)
+=======
+use Rattle.frames.specs.Frames.{pastedAt, clearedAt, copiedAt}
+>>>>>>> help-a
 
 pub zero-turn : (m : List ℕ) (a k : ℕ) {s : List ℕ} → s ≡ zeroed m a k → set s (a + k) 0 ≡ zeroed m a (k + 1)
 unfolding zeroed

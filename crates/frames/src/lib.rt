@@ -1,56 +1,83 @@
 // Frames: which are in use, and their bytes inside the lent memory. No function here holds a page of its own.
 use logic::Found;
 ghost use mathlib.Core.Path.{_≡_};
-ghost use mathlib.Core.Bool.{_&&_};
-ghost use Prim.Native.Nat.{_+_, _^_, _≤_, _<_};
-ghost use lib.ListN.{set};
+ghost use Prim.Native.Nat.{ℕ, _+_, _-_, _^_, _≤_, _<_};
+ghost use lib.ListN.{length, set};
+ghost use Rattle.logic.specs.Below.{sumBelow, firstFrom};
 ghost use Rattle.frames.specs.Frames.{idleOf, oneIdle, freeCount, freeFrameIn, takenOf, givenOf, clearedAt, copiedAt, pastedAt, blankAt};
 
-fn is_idle(used: &[u8], frame: u32) -> bool
-    ensures { λ r. ⌜ r ≡ idleOf (now (used .entry)) frame ⌝ }
+// How many flags are frames': a pool has at most 1,024.
+fn frames_in(used: &[u8]) -> usize
+    ensures { λ r. ⌜ (r ≤ length (now (used .entry))) × (r ≤ 1024) × ((i : ℕ) → r ≤ i → i < 1024 → length (now (used .entry)) ≤ i) ⌝ }
 {
-    let f = frame as usize;
-    if f < used.len() {
-        return used[f] == 0;
+    if used.len() < 1024 {
+        return used.len();
     }
-    false
+    1024
 }
 
-// The lowest free frame.
-pub fn free_frame(used: &[u8]) -> Found
-    ensures { λ r. ⌜ r ≡ freeFrameIn (now (used .entry)) ⌝ }
+// How many of the 64 frames from a on are free. No early exit, so that the compiler counts many at once.
+fn idle_in_block(used: &[u8], a: usize) -> u8
+    requires { ⌜ a + 64 ≤ length (now used) ⌝ }
+    ensures { λ r. ⌜ r ≡ sumBelow (λ k. oneIdle (now (used .entry)) (a + k)) 64 ⌝ }
 {
-    let mut i = 0;
-    while i < 1024 {
-        if is_idle(used, i) {
-            return Found::At(i);
+    let mut sum: u8 = 0;
+    let mut k = 0;
+    while k < 64 {
+        let flag = used[a + k];
+        k += 1;
+        if flag == 0 {
+            sum += 1;
+        }
+    }
+    sum
+}
+
+// The lowest free frame from a place on, flag by flag.
+fn scan(used: &[u8], from: usize) -> Found
+    ensures { λ r. ⌜ r ≡ firstFrom (idleOf (now (used .entry))) from (1024 - from) ⌝ }
+{
+    let n = frames_in(used);
+    let mut i = from;
+    while i < n {
+        if used[i] == 0 {
+            return Found::At(i as u32);
         }
         i += 1;
     }
     Found::Nothing
 }
 
-fn one_idle(used: &[u8], frame: u32) -> u32
-    ensures { λ r. ⌜ r ≡ oneIdle (now (used .entry)) frame ⌝ }
-    ensures small { λ r. ⌜ r ≤ 1 ⌝ }
+// The lowest free frame. Blocks without one are passed over.
+pub fn free_frame(used: &[u8]) -> Found
+    ensures { λ r. ⌜ r ≡ freeFrameIn (now (used .entry)) ⌝ }
 {
-    if is_idle(used, frame) {
-        return 1;
+    let n = frames_in(used);
+    let mut a = 0;
+    while a + 64 <= n {
+        if idle_in_block(used, a) != 0 {
+            return scan(used, a);
+        }
+        a += 64;
     }
-    0
+    scan(used, a)
 }
 
-// How many frames are free.
+// How many frames are free. The sum is as narrow as 1,024 allows, so that the compiler adds more at once.
 pub fn free_count(used: &[u8]) -> u32
     ensures { λ r. ⌜ r ≡ freeCount (now (used .entry)) ⌝ }
 {
-    let mut sum: u32 = 0;
-    let mut i: u32 = 0;
-    while i < 1024 {
-        sum += one_idle(used, i);
+    let n = frames_in(used);
+    let mut sum: u16 = 0;
+    let mut i = 0;
+    while i < n {
+        let flag = used[i];
         i += 1;
+        if flag == 0 {
+            sum += 1;
+        }
     }
-    sum
+    sum as u32
 }
 
 fn put_flag(used: &mut [u8], frame: u32, flag: u8)

@@ -1,0 +1,48 @@
+use mathlib.Core.Path.{_≡_, refl}
+use Prim.Native.Nat.{_+_, _-_, _≤_}
+use native.Mathlib.Omega.{arith}
+use Rattle.logic.specs.Below.{sumBelow}
+use Rattle.logic.proofs.Laws.{sum-next}
+use Rattle.frames.specs.Frames.{oneIdle}
+use Rattle.frames.proofs.Flags.{one-zero, one-mark, sum-kept}
+use borrow.Author.Needs.{needs}
+use Rattle.frames.proofs.idle_in_block.Statement.{statement}
+use Rattle.frames.proofs.idle_in_block.Tie as tie
+
+abbrev Inv-loop : tie.InvT-loop
+Inv-loop used a sum₀ k₀ sum k = (k ≤ 64) × (sum ≤ k) × (sum ≡ sumBelow (λ k. oneIdle used (a + k)) k)
+
+abbrev μ-loop : tie.MeasureT-loop
+μ-loop used a sum₀ k₀ sum k = 64 - k
+
+loop-holds : tie.Need-loop-holds Inv-loop μ-loop
+unfolding sumBelow
+loop-holds c = (search needs, search needs, refl)
+
+loop-again : tie.Need-loop-again Inv-loop μ-loop
+loop-again c = (search needs, search needs, sum-next _ _ (c .before .before .before .loop .inv .2) (one-zero _ _ (search needs) (c .if1 .taken)))
+
+loop-again-2 : tie.Need-loop-again-2 Inv-loop μ-loop
+loop-again-2 c = (search needs, search needs, sum-kept _ _ (c .before .before .before .loop .inv .2) (one-mark _ _ (search needs) (c .if1 .left)))
+
+returns : tie.Need-returns Inv-loop μ-loop
+returns c =
+    let h : c .before .loop .k ≡ 64 = omega arith in
+    rw h at (c .before .loop .inv .2)
+
+pub idle-in-block-spec : {M : Type 1} → statement M
+idle-in-block-spec =
+    tie.close
+    (tie.spec
+    Inv-loop
+    μ-loop
+    loop-holds
+    (λ c. search needs)
+    (λ c. search needs)
+    (λ c. search needs)
+    (λ c. search needs)
+    (λ c. search needs)
+    loop-again
+    (λ c. search needs)
+    loop-again-2
+    returns)
