@@ -1,0 +1,5 @@
+pub mod Pass
+pub mod Table
+pub mod Rows
+pub mod Frames
+pub mod Bytes
