@@ -5,3 +5,6 @@ pub mod Frames
 pub mod Bytes
 pub mod Sides
 pub mod Wood
+pub mod State
+pub mod Done
+pub mod Hand

@@ -43,19 +43,26 @@ term-most f (suc m) j l =
 hidden-test : (n : Node) → n .kind ≡ 3 → hiddenOf n ≡ true
 hidden-test n h = eq-eqb (n .kind) 3 h
 
-module _ (N : List ℕ) (next : ℕ) (len : length N ≡ 1024) (t : Tree N next) (w : Windows N) where
+-- the nodes are sound and their windows whole
+pub record Ground (N : List ℕ) : Type 0 where
+  pub next : ℕ
+  pub len : length N ≡ 1024
+  pub tree : Tree N next
+  pub windows : Windows N
+
+module _ (N : List ℕ) (G : Ground N) where
   pub live-low : (n : ℕ) → Live N n → n < 64
-  live-low n live = split (less n 64) (λ l. l) (λ out. absurd (live (ap (λ (r : Node). r .kind) (node-out N len n (omega arith)))))
+  live-low n live = split (less n 64) (λ l. l) (λ out. absurd (live (ap (λ (r : Node). r .kind) (node-out N (G .len) n (omega arith)))))
 
   inside-by : (n h : ℕ) → nodeOf N n .parent ≡ h + 1 → h < 64
-  inside-by n h e = let k = t .parents n h e .0 in live-low h (λ z. omega arith)
+  inside-by n h e = let k = G .tree .parents n h e .0 in live-low h (λ z. omega arith)
 
   pub height : ℕ → ℕ
-  height n = rank N len inside-by (t .chains) n
+  height n = rank N (G .len) inside-by (G .tree .chains) n
 
   pub height-most : (n : ℕ) → height n ≤ 64
   unfolding height
-  height-most n = rank-most N len inside-by (t .chains) n
+  height-most n = rank-most N (G .len) inside-by (G .tree .chains) n
 
   -- the bounds of a page that asks
   in-by : (c r h : ℕ) (b : Bool) → nodeOf N c .parent ≡ h + 1 → hiddenOf (nodeOf N c) ≡ b → outOf (nodeOf N c) r ≡ false → r < nodeOf N c .size
@@ -65,7 +72,7 @@ module _ (N : List ℕ) (next : ℕ) (len : length N ≡ 1024) (t : Tree N next)
   in-by c r h false e k o =
       let z = ne-eqb (nodeOf N c .parent) 0 (λ z. omega arith) in
       let l = leb-false (nodeOf N c .«parent_limit») (nodeOf N c .«parent_offset» + r) (rw (k, z) at o) in
-      let q = w .whole c h e in
+      let q = G .windows .whole c h e in
       omega arith
 
   in-window : (n : Node) (r : ℕ) → n .«parent_limit» ≡ n .«parent_offset» + n .size → r < n .size → windowOf n (n .«parent_offset» + r) ≡ true
@@ -80,13 +87,13 @@ module _ (N : List ℕ) (next : ℕ) (len : length N ≡ 1024) (t : Tree N next)
       let h = nodeOf N c .parent - 1 in
       let e : nodeOf N c .parent ≡ h + 1 = omega arith in
       let l = in-by c r h (hiddenOf (nodeOf N c)) e refl o in
-      let u = w .whole c h e in
-      let v = w .inside c h e in
-      let k = t .parents c h e in
+      let u = G .windows .whole c h e in
+      let v = G .windows .inside c h e in
+      let k = G .tree .parents c h e in
       record {
         parent = e;
         hidden = k .0;
-        sided = sided-by (nodeOf N h) c (hidden-test (nodeOf N h) (k .0)) (t .distinct h (k .0)) (k .1);
+        sided = sided-by (nodeOf N h) c (hidden-test (nodeOf N h) (k .0)) (G .tree .distinct h (k .0)) (k .1);
         size = l;
         window = in-window (nodeOf N c) r u l;
         inside = omega arith;
@@ -100,7 +107,7 @@ module _ (N : List ℕ) (next : ℕ) (len : length N ≡ 1024) (t : Tree N next)
       split (equal (nodeOf N c .parent) 0)
       (λ e. rw (k, eq-eqb (nodeOf N c .parent) 0 e) (lt-leb (nodeOf N c .size) r l))
       (λ ne.
-      let q = w .whole c (nodeOf N c .parent - 1) (omega arith) in
+      let q = G .windows .whole c (nodeOf N c .parent - 1) (omega arith) in
       rw (k, ne-eqb (nodeOf N c .parent) 0 ne) (lt-leb (nodeOf N c .«parent_limit») (nodeOf N c .«parent_offset» + r) (omega arith)))
 
   pub not-out : (c r : ℕ) → r < nodeOf N c .size → outOf (nodeOf N c) r ≡ false
@@ -109,14 +116,14 @@ module _ (N : List ℕ) (next : ℕ) (len : length N ≡ 1024) (t : Tree N next)
   start-low : (c : ℕ) → nodeOf N c .«parent_offset» ≤ 1073741824
   start-low c =
       split (less c 64)
-      (λ l. let q = term-most (λ n. nodeOf N n .«parent_offset») 64 c l in let s = t .starts in let m = t .next-most in omega arith)
-      (λ out. rw (node-out N len c (omega arith)) (omega arith))
+      (λ l. let q = term-most (λ n. nodeOf N n .«parent_offset») 64 c l in let s = G .tree .starts in let m = G .tree .next-most in omega arith)
+      (λ out. rw (node-out N (G .len) c (omega arith)) (omega arith))
 
   pub asks-same : (c r : ℕ) → r < nodeOf N c .size → asksOf (nodeOf N c) r ≡ linksOf N .asks c r
   unfolding asksOf
   asks-same c r l =
       let s = start-low c in
-      let z = t .sizes c in
+      let z = G .tree .sizes c in
       rw (lt-ltb (nodeOf N c .«parent_offset» + r) 4294967296 (omega arith)) (by (linksOf N .asks c r))
     where
       by : (b : Bool) → (b && true) ≡ b
@@ -125,7 +132,7 @@ module _ (N : List ℕ) (next : ℕ) (len : length N ≡ 1024) (t : Tree N next)
 
   pub lower : (c r : ℕ) → linksOf N .asks c r ≡ true → height c ≡ suc (height (linksOf N .par c))
   unfolding height
-  lower c r a = rank-up N len inside-by (t .chains) c (linksOf N .par c) (asked c r a .parent)
+  lower c r a = rank-up N (G .len) inside-by (G .tree .chains) c (linksOf N .par c) (asked c r a .parent)
 
   pub leaf-kind : (n : ℕ) → Leaf N n → Hidden N n → ⊥
   leaf-kind n l h = let k : leafOf (nodeOf N n) ≡ false = rw h in let z : _≡_ {A = ℕ} 0 1 = cc in omega arith
@@ -134,4 +141,4 @@ module _ (N : List ℕ) (next : ℕ) (len : length N ≡ 1024) (t : Tree N next)
   leaf-live n l h = let k : leafOf (nodeOf N n) ≡ false = rw h in let z : _≡_ {A = ℕ} 0 1 = cc in omega arith
 
   pub sized-live : (n r : ℕ) → r < nodeOf N n .size → Live N n
-  sized-live n r l k = let q = ap (λ (x : Node). x .size) (t .blank n k) in omega arith
+  sized-live n r l k = let q = ap (λ (x : Node). x .size) (G .tree .blank n k) in omega arith

@@ -7,13 +7,15 @@ use lib.ListN.{length, getD}
 use Rattle.logic.specs.declared.Found.the-variants.{Nothing}
 use Rattle.entry.specs.declared.PageState.{PageState}
 use Rattle.tables.specs.Pool.{Pool, poolOf}
+use Rattle.tables.specs.Tables.{slotAt}
 use Rattle.frames.specs.Frames.{freeCount, freeFrameIn}
 use Rattle.lookup.specs.declared.Looked.{Looked}
 use Rattle.lookup.specs.declared.Looked.the-variants.{Shared, Zero, Own, New, NoMemory, Stopped}
 use Rattle.lookup.specs.Work.{Work, workOf, Looking}
 use Rattle.notices.specs.Notices.{Told}
 use Rattle.sound.specs.Facts.{Holds}
-use Rattle.isolation.specs.Private.{Private}
+use Rattle.isolation.specs.Walk.{Over}
+use Rattle.isolation.specs.Private.{linksOf, Private}
 use Rattle.isolation.specs.Need.{need}
 
 -- the pool with what a lookup leaves; and what a lookup starts from
@@ -51,6 +53,8 @@ Answers L p t l i a write (Own f u) w = ⊥
 Answers L p t l i a write (New f) w = ⊥
 Answers L p t l i a write Stopped w = ⊥
 
+-- entries change at the page itself and at pages above it alone
 pub record Kept (L : ℕ) (A : ℕ → ℕ → ℕ → ℕ) (p : Pool) (t : Told) (l i : ℕ) (write : Bool) (r : Looking) : Type 0 where
   pub private : Private L A (poolWith p (r .work))
+  pub only : (a b : ℕ) → (a ≡ l → b ≡ i → ⊥) → (Over (linksOf (p .nodes)) l i a b → ⊥) → slotAt (r .work .pages) a b ≡ slotAt (p .pages) a b
   pub answers : Answers L p t l i (A l i) write (r .answer) (r .work)

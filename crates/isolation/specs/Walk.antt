@@ -32,6 +32,11 @@ pub data View (T : Links) (E : ℕ → ℕ → Slot) (n p : ℕ) (x : Found) : T
   own : {s : PageState} → E n p ≡ Held s → x ≡ At (s .frame) → View T E n p x
   above : E n p ≡ Empty → Near T E n p x → View T E n p x
 
+-- (a, b) is a page above page p of n: of its parent, of that one's parent, ..
+pub data Over (T : Links) : ℕ → ℕ → ℕ → ℕ → Type 0 where
+  parent : {n p a b : ℕ} → T .asks n p ≡ true → a ≡ T .par n → b ≡ T .start n + p → Over T n p a b
+  higher : {n p a b : ℕ} → T .asks n p ≡ true → Over T (T .par n) (T .start n + p) a b → Over T n p a b
+
 -- byte k of what is read, in a memory of L bytes a frame
 abbrev pub byteOf : ℕ → List ℕ → Found → ℕ → ℕ
 byteOf L memory (At f) k = getD memory (f * L + k) 0
