@@ -8,3 +8,4 @@ pub mod Wood
 pub mod State
 pub mod Done
 pub mod Hand
+pub mod Ask
