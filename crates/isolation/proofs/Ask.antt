@@ -34,61 +34,8 @@ use Rattle.isolation.proofs.Sides.{side-owned}
 use Rattle.isolation.proofs.Wood.{Asked, Ground, asked, not-out, asks-same, height, lower}
 use Rattle.isolation.proofs.State.{Alike, Ok, Step, step-same, step-then, kept-wrote, not-par}
 use Rattle.isolation.proofs.Done.{by-pick, holds-not, holds-some, Costs, Lent, Handed, Fresh, Bare, Short, Done, Post}
+use Rattle.isolation.proofs.Then.{and-true, more-least, done-then}
 use Rattle.isolation.proofs.Hand.{hidden-post}
-
-at-not : {A : Type 0} {f : ℕ} → At f ≡ Nothing → A
-at-not e = let z : _≡_ {A = ℕ} 0 1 = cc in absurd (omega arith)
-
-and-true : (b : Bool) → oneIf (b && true) ≡ oneIf b
-and-true true = refl
-and-true false = refl
-
-more-least : (n : Found) (k : ℕ) → orFresh n ≤ orFresh (more n k)
-more-least (At j) k = omega arith
-more-least Nothing k = omega arith
-
--- what comes from a state to which a frame was handed: the frame f of p stood at the node, and the node then answered its child
-module _ (N : List ℕ) (G : Ground N) (L F : ℕ) (s p s₁ : Work) (x : Found) (w : Bool) (y : Found) (f c r b : ℕ) (step : Step N L F s s₁) (bytes : Alike L (s .memory) (s₁ .memory) x (At f))
-    (taken : w ≡ true → Costs s s₁ y) (untaken : w ≡ false → s₁ .used ≡ s .used) where
-  costs-then : (s₂ : Work) → Costs s s₁ y → Costs s₁ s₂ (At b) → Costs s s₂ (more y b)
-  costs-then s₂ d e =
-      let q : e .count ≡ b = number (e .need) in
-      record { count = d .count + b; need = rw (d .need); frames = let u = d .frames in let v = e .frames in omega arith }
-    where
-      number : {j : ℕ} → At b ≡ At j → j ≡ b
-      number e = cc
-
-  short-then : Costs s s₁ y → freeCount (s₁ .used) < b → freeCount (s .used) < orFresh (more y b)
-  short-then d l = rw (d .need) (let u = d .frames in omega arith)
-
-  done-then : (z : Looked) (s₂ : Work) → Done N L F s₁ c r (At f) w (At b) z s₂ → Done N L F s c r x w (more y b) z s₂
-  done-then (Shared g) s₂ d =
-      record {
-        reading = d .reading;
-        step = step-then N G L F s s₁ s₂ step (d .step);
-        bytes = λ k l. d .bytes k l ∙ bytes k l;
-        frame = d .frame;
-        untaken = d .untaken ∙ untaken (d .reading);
-      }
-  done-then (Own g u) s₂ d =
-      record {
-        step = step-then N G L F s s₁ (kept s₂ c r g) step (d .step);
-        pages = d .pages;
-        bytes = λ k l. d .bytes k l ∙ bytes k l;
-        frame = d .frame;
-        taken = λ k. costs-then s₂ (taken k) (d .taken k);
-        untaken = λ k. d .untaken k ∙ untaken k;
-      }
-  done-then (New g) s₂ d = at-not (d .nothing)
-  done-then Zero s₂ d = at-not (d .nothing)
-  done-then NoMemory s₂ d =
-      record {
-        writing = d .writing;
-        step = step-then N G L F s s₁ s₂ step (d .step);
-        no-frame = d .no-frame;
-        short = short-then (taken (d .writing)) (d .short);
-      }
-  done-then Stopped s₂ d = absurd d
 
 -- a page above a page of n is of a lower node
 over-low : (N : List ℕ) (G : Ground N) {n p a b : ℕ} → Over (linksOf N) n p a b → height N G a < height N G n
@@ -147,7 +94,7 @@ module _ (N : List ℕ) (G : Ground N) (M : List ℕ) (L F c r : ℕ) (w : Bool)
         let l = settle L N M (kept p h q f) h q w c u in
         record {
           still = λ a b out. k .still a b out ∙ kept-still a b out;
-          done = done-then N G L F s p (kept p h q f) x w y f c r (oneIf (linksOf N .both c r)) (d .step) (d .bytes)
+          done = done-then N G L F s (kept p h q f) x w y f c r (oneIf (linksOf N .both c r)) (d .step) (d .bytes)
           (λ j. let t = d .taken j in record { count = t .count; need = t .need; frames = t .frames }) (d .untaken) (l .answer) (l .work) (k .done);
         }
 
@@ -163,7 +110,7 @@ module _ (N : List ℕ) (G : Ground N) (M : List ℕ) (L F c r : ℕ) (w : Bool)
       rw is-hidden
       (record {
         still = λ a b out. d .still a b (λ v. out (higher a₀ v));
-        done = record { writing = t .writing; nothing = t .nothing; need = rw (t .need); free = t .free; pages = t .pages; used = t .used; memory = t .memory };
+        done = record { writing = t .writing; nothing = t .nothing; need = rw (t .need); free = t .free; result = t .result };
       })
   handed-post x s o bare y NoMemory p d =
       let t = d .done in
@@ -190,7 +137,7 @@ module _ (N : List ℕ) (G : Ground N) (M : List ℕ) (L F c r : ℕ) (w : Bool)
     fresh-by (At g) f k =
         record {
           still = λ a b out. refl;
-          done = record { writing = k; nothing = nothing; need = need; free = f; pages = refl; used = refl; memory = refl };
+          done = record { writing = k; nothing = nothing; need = need; free = f; result = refl };
         }
 
     fresh-post : Post N L F s c r x w y (fresh L s h q true false w)
@@ -234,6 +181,10 @@ unfolding needAbove
 need-none T E zero n p a = refl
 need-none T E (suc k) n p a = rw a
 
+pub need-some : (T : Links) (E : ℕ → ℕ → Slot) (k n p : ℕ) → T .asks n p ≡ true → passing (E (T .par n) (T .start n + p)) (T .both n p) (needAbove T E k (T .par n) (T .start n + p)) ≡ needAbove T E (suc k) n p
+unfolding needAbove
+need-some T E k n p a = rw a
+
 -- what the parent of c answers
 pub ask : (N : List ℕ) (G : Ground N) (M : List ℕ) (L F k : ℕ) (s : Work) (c r : ℕ) (x : Found) (w : Bool) → Ok N L F s → linksOf N .asks c r ≡ true → slotAt (s .pages) c r ≡ Empty
     → Near (linksOf N) (slotAt (s .pages)) c r x → height N G (linksOf N .par c) ≤ k
@@ -250,5 +201,5 @@ ask N G M L F (suc k) s c r x w o a bare near t =
     (need-none (linksOf N) (slotAt (s .pages)) (suc k) h q)
     (λ b z d.
     subst (λ (n : Found). Post N L F s h q x w n (look L k N M s (linksOf N .par h) (linksOf N .start h + q) w h))
-    (let e : linksOf N .asks h q ≡ true = b in rw e)
+    (need-some (linksOf N) (slotAt (s .pages)) k h q b)
     (ask N G M L F k s h q x w o b z d (let l = lower N G h q b in omega arith)))

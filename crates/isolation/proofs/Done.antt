@@ -15,7 +15,7 @@ use Rattle.tables.specs.Tables.{slotAt}
 use Rattle.frames.specs.Frames.{freeCount, freeFrameIn, clearedAt}
 use Rattle.lookup.specs.declared.Looked.{Looked}
 use Rattle.lookup.specs.declared.Looked.the-variants.{Shared, Zero, Own, New, NoMemory, Stopped}
-use Rattle.lookup.specs.Work.{Work, Looking}
+use Rattle.lookup.specs.Work.{Work, workOf, Looking}
 use Rattle.lookup.specs.Lookup.{kept, holdsOf}
 use Rattle.isolation.specs.Walk.{Links, Near, Over}
 use Rattle.isolation.specs.Walk.Over.{parent, higher}
@@ -64,9 +64,7 @@ pub record Fresh (L : ℕ) (s : Work) (x : Found) (w : Bool) (n : Found) (g : �
   pub nothing : x ≡ Nothing
   pub need : n ≡ Nothing
   pub free : freeFrameIn (s .used) ≡ At g
-  pub pages : s′ .pages ≡ s .pages
-  pub used : s′ .used ≡ set (s .used) g 1
-  pub memory : s′ .memory ≡ clearedAt L (s .memory) g
+  pub result : s′ ≡ workOf (s .pages) (set (s .used) g 1) (clearedAt L (s .memory) g) (s .told)
 
 -- nothing is above
 pub record Bare (s : Work) (x : Found) (w : Bool) (s′ : Work) : Type 0 where

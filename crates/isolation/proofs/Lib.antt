@@ -7,5 +7,7 @@ pub mod Sides
 pub mod Wood
 pub mod State
 pub mod Done
+pub mod Then
 pub mod Hand
 pub mod Ask
+pub mod Leaf
