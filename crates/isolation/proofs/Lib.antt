@@ -11,3 +11,5 @@ pub mod Then
 pub mod Hand
 pub mod Ask
 pub mod Leaf
+pub mod Look
+pub mod Put
