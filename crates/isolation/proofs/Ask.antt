@@ -95,7 +95,7 @@ module _ (N : List ℕ) (G : Ground N) (M : List ℕ) (L F c r : ℕ) (w : Bool)
         record {
           still = λ a b out. k .still a b out ∙ kept-still a b out;
           done = done-then N G L F s (kept p h q f) x w y f c r (oneIf (linksOf N .both c r)) (d .step) (d .bytes)
-          (λ j. let t = d .taken j in record { count = t .count; need = t .need; frames = t .frames }) (d .untaken) (l .answer) (l .work) (k .done);
+              (λ j. let t = d .taken j in record { count = t .count; need = t .need; frames = t .frames }) (d .untaken) (l .answer) (l .work) (k .done);
         }
 
   -- the parent's answer is taken apart
