@@ -38,7 +38,7 @@ use Rattle.isolation.proofs.Then.{and-true, more-least, done-then}
 use Rattle.isolation.proofs.Hand.{hidden-post}
 
 -- a page above a page of n is of a lower node
-over-low : (N : List ℕ) (G : Ground N) {n p a b : ℕ} → Over (linksOf N) n p a b → height N G a < height N G n
+pub over-low : (N : List ℕ) (G : Ground N) {n p a b : ℕ} → Over (linksOf N) n p a b → height N G a < height N G n
 over-low N G (parent {n} {p} x i j) = let l = lower N G n p x in let e = ap (height N G) i in omega arith
 over-low N G (higher {n} {p} x d) = let l = lower N G n p x in let e = over-low N G d in omega arith
 

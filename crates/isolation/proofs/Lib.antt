@@ -13,3 +13,4 @@ pub mod Ask
 pub mod Leaf
 pub mod Look
 pub mod Put
+pub mod Needs
