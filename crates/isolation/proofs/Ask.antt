@@ -1,10 +1,9 @@
 -- The lookup lemma for a node that its child asks, by the number of parents that may still be asked. Assumes nothing.
 use mathlib.Core.Path.{_≡_, refl, sym, ap, _∙_, subst}
-use mathlib.Core.Bool.{Bool, true, false, _&&_, not}
+use mathlib.Core.Bool.{Bool, true, false}
 use mathlib.Core.List.{List}
-use Prim.Native.Nat.{ℕ, zero, suc, _+_, _-_, _≤_, _<_}
+use Prim.Native.Nat.{ℕ, zero, suc, _+_, _≤_, _<_}
 use native.Mathlib.Omega.{arith}
-use lib.ListN.{length}
 use borrow.Author.Tests.{eq-eqb}
 use Rattle.logic.specs.Pick.{pick}
 use Rattle.logic.specs.declared.Found.{Found}
@@ -12,11 +11,10 @@ use Rattle.logic.specs.declared.Found.the-variants.{At, Nothing}
 use Rattle.entry.specs.declared.PageState.{PageState}
 use Rattle.entry.specs.declared.Slot.{Slot}
 use Rattle.entry.specs.declared.Slot.the-variants.{Empty, Held}
-use Rattle.entry.specs.Entry.{splitOf, newState}
-use Rattle.node.specs.declared.Node.{Node}
+use Rattle.entry.specs.Entry.{newState}
 use Rattle.node.specs.Node.{hiddenOf, outOf}
 use Rattle.tables.specs.Tables.{nodeOf, slotAt}
-use Rattle.frames.specs.Frames.{freeCount, freeFrameIn}
+use Rattle.frames.specs.Frames.{freeFrameIn}
 use Rattle.lookup.specs.declared.Looked.{Looked}
 use Rattle.lookup.specs.declared.Looked.the-variants.{Shared, Zero, Own, New, NoMemory, Stopped}
 use Rattle.lookup.specs.Work.{Work, Looking, lookingOf}
@@ -26,14 +24,14 @@ use Rattle.isolation.specs.Walk.{Links, Near, Over}
 use Rattle.isolation.specs.Walk.Near.{none, here, up}
 use Rattle.isolation.specs.Walk.Over.{parent, higher}
 use Rattle.isolation.specs.Private.{linksOf}
-use Rattle.isolation.specs.Need.{oneIf, more, passing, needAbove, orFresh}
+use Rattle.isolation.specs.Need.{oneIf, more, passing, needAbove}
 use Rattle.isolation.proofs.Pass.{held-not, true-not}
 use Rattle.isolation.proofs.Table.{others}
 use Rattle.isolation.proofs.Frames.{none-free}
 use Rattle.isolation.proofs.Sides.{side-owned}
 use Rattle.isolation.proofs.Wood.{Asked, Ground, asked, not-out, asks-same, height, lower}
-use Rattle.isolation.proofs.State.{Alike, Ok, Step, step-same, step-then, kept-wrote, not-par}
-use Rattle.isolation.proofs.Done.{by-pick, holds-not, holds-some, Costs, Lent, Handed, Fresh, Bare, Short, Done, Post}
+use Rattle.isolation.proofs.State.{Ok, step-same, kept-wrote}
+use Rattle.isolation.proofs.Done.{by-pick, holds-not, holds-some, Handed, Post}
 use Rattle.isolation.proofs.Then.{and-true, more-least, done-then}
 use Rattle.isolation.proofs.Hand.{hidden-post}
 

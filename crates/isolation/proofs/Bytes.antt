@@ -1,15 +1,13 @@
 -- The frames' bytes after a frame was cleared, copied or written in part, for pages of L bytes. Assumes nothing.
 use mathlib.Core.Path.{_≡_, refl, sym, ap, _∙_}
-use mathlib.Core.Bool.{Bool, true, false}
 use mathlib.Core.List.{List}
 use Prim.Native.Nat.{ℕ, zero, suc, _+_, _*_, _/_, _≤_, _<_}
 use native.Mathlib.Omega.{arith}
 use native.Mathlib.Nat.{suc-mul, mul-le-mul-right}
 use lib.Arith.{digits-div}
-use lib.ListN.{length, getD, set, length-set}
+use lib.ListN.{length, getD}
 use lib.Seq.{getD-set-same, getD-set-other}
 use borrow.Author.Tests.{le-leb}
-use Rattle.logic.specs.Pick.{pick}
 use Rattle.logic.specs.Below.{copied, zeroed}
 use Rattle.logic.proofs.Means.{equal, split}
 use Rattle.logic.proofs.Laws.{copied-length, zeroed-length, copied-outside}

@@ -1,5 +1,5 @@
 -- What a node's answer to its child means, for every answer. Assumes nothing.
-use mathlib.Core.Path.{_≡_, refl, sym, ap, _∙_}
+use mathlib.Core.Path.{_≡_, refl}
 use mathlib.Core.Bool.{Bool, true, false}
 use mathlib.Core.List.{List}
 use Prim.Native.Nat.{ℕ, _+_, _<_}
@@ -17,8 +17,8 @@ use Rattle.lookup.specs.declared.Looked.{Looked}
 use Rattle.lookup.specs.declared.Looked.the-variants.{Shared, Zero, Own, New, NoMemory, Stopped}
 use Rattle.lookup.specs.Work.{Work, workOf, Looking}
 use Rattle.lookup.specs.Lookup.{kept, holdsOf}
-use Rattle.isolation.specs.Walk.{Links, Near, Over}
-use Rattle.isolation.specs.Walk.Over.{parent, higher}
+use Rattle.sound.specs.Facts.{Holds}
+use Rattle.isolation.specs.Walk.{Over}
 use Rattle.isolation.specs.Private.{linksOf}
 use Rattle.isolation.specs.Need.{orFresh}
 use Rattle.isolation.proofs.State.{Alike, Step}
@@ -90,3 +90,30 @@ Done N L F s c r x w n Stopped s′ = ⊥
 pub record Post (N : List ℕ) (L F : ℕ) (s : Work) (c r : ℕ) (x : Found) (w : Bool) (n : Found) (l : Looking) : Type 0 where
   pub still : (a b : ℕ) → (Over (linksOf N) c r a b → ⊥) → slotAt (l .work .pages) a b ≡ slotAt (s .pages) a b
   pub done : Done N L F s c r x w n (l .answer) (l .work)
+
+-- The same of a leaf's own lookup, where its page p reads x and takes n frames: frame f is shared
+pub record Yields (L F : ℕ) (s : Work) (l p : ℕ) (x : Found) (w : Bool) (n f : ℕ) (s′ : Work) : Type 0 where
+  pub bytes : Alike L (s .memory) (s′ .memory) x (At f)
+  pub frame : f < F
+  pub own : w ≡ true → (e : PageState) × Holds (s′ .pages) l p e × (e .frame ≡ f)
+  pub taken : w ≡ true → freeCount (s .used) ≡ freeCount (s′ .used) + n
+  pub untaken : w ≡ false → s′ .used ≡ s .used
+
+-- the frames were too few
+pub record Lacks (s : Work) (w : Bool) (n : ℕ) (s′ : Work) : Type 0 where
+  pub writing : w ≡ true
+  pub no-frame : freeFrameIn (s′ .used) ≡ Nothing
+  pub short : freeCount (s .used) < n
+
+abbrev pub Says : (L F : ℕ) (s : Work) (l p : ℕ) (x : Found) (w : Bool) (n : ℕ) → Looked → Work → Type 0
+Says L F s l p x w n (Shared f) s′ = Yields L F s l p x w n f s′
+Says L F s l p x w n Zero s′ = Bare s x w s′
+Says L F s l p x w n NoMemory s′ = Lacks s w n s′
+Says L F s l p x w n (Own f u) s′ = ⊥
+Says L F s l p x w n (New g) s′ = ⊥
+Says L F s l p x w n Stopped s′ = ⊥
+
+pub record Served (N : List ℕ) (L F : ℕ) (s : Work) (l p : ℕ) (x : Found) (w : Bool) (n : ℕ) (z : Looking) : Type 0 where
+  pub step : Step N L F s (z .work)
+  pub only : (a b : ℕ) → (a ≡ l → b ≡ p → ⊥) → (Over (linksOf N) l p a b → ⊥) → slotAt (z .work .pages) a b ≡ slotAt (s .pages) a b
+  pub says : Says L F s l p x w n (z .answer) (z .work)

@@ -1,28 +1,25 @@
 -- A free frame is taken, or an entry's tag changed; and how many frames are free. Assumes nothing.
 use mathlib.Core.Path.{_≡_, refl, sym, ap, _∙_, subst}
-use mathlib.Core.Bool.{Bool, true, false, _&&_}
+use mathlib.Core.Bool.{Bool, true, false}
 use mathlib.Core.List.{List}
 use Prim.Native.Nat.{ℕ, zero, suc, _+_, _≤_, _<_}
 use native.Mathlib.Omega.{arith}
 use lib.Dec.{eqb, ltb}
 use lib.ListN.{length, getD, set, length-set}
 use lib.Seq.{getD-set-same, getD-set-other}
-use borrow.Author.Tests.{eqb-true, ltb-true, ne-eqb, lt-ltb, eq-eqb}
+use borrow.Author.Tests.{eqb-true, ltb-true, lt-ltb}
 use Rattle.logic.specs.Pick.{pick}
 use Rattle.logic.specs.Below.{sumBelow, firstFrom}
-use Rattle.logic.specs.declared.Found.{Found}
 use Rattle.logic.specs.declared.Found.the-variants.{At, Nothing}
 use Rattle.logic.proofs.Means.{equal, split}
 use Rattle.logic.proofs.Laws.{and-left, and-right, first-below}
 use Rattle.entry.specs.declared.PageState.{PageState}
 use Rattle.entry.specs.declared.PageStateTag.{PageStateTag}
-use Rattle.entry.specs.declared.Slot.the-variants.{Empty, Held}
+use Rattle.entry.specs.declared.Slot.the-variants.{Held}
 use Rattle.entry.specs.Entry.{taggedOf}
-use Rattle.node.specs.declared.Node.{Node}
-use Rattle.tables.specs.Tables.{nodeOf, slotAt}
 use Rattle.frames.specs.Frames.{idleOf, oneIdle, freeCount, freeFrameIn}
 use Rattle.sound.specs.Facts.{Hidden, Holds, Stands, Entries}
-use Rattle.isolation.proofs.Pass.{held-one, held-not, Place, place}
+use Rattle.isolation.proofs.Pass.{held-one, Place, place}
 use Rattle.isolation.proofs.Pass.Place.{there, elsewhere}
 use Rattle.isolation.proofs.Table.{Wrote, others}
 use Rattle.isolation.proofs.Rows.{Rows, Fit, either, rows-wrote, rows-of, Loose}

@@ -1,115 +1,37 @@
 -- A leaf's own lookup: every leaf reads as before, and a frame given for writing is the leaf's own. Assumes nothing.
-use mathlib.Core.Path.{_≡_, refl, sym, ap, _∙_, subst, subst₂}
+use mathlib.Core.Path.{_≡_, refl, sym, _∙_, subst}
 use mathlib.Core.Bool.{Bool, true, false}
 use mathlib.Core.List.{List}
-use Prim.Native.Nat.{ℕ, zero, suc, _+_, _-_, _≤_, _<_}
+use Prim.Native.Nat.{ℕ, zero, suc, _+_, _≤_, _<_}
 use native.Mathlib.Omega.{arith}
-use lib.ListN.{length, set, length-set}
 use borrow.Author.Tests.{ne-eqb}
-use Rattle.logic.specs.Pick.{pick}
 use Rattle.logic.specs.declared.Found.{Found}
 use Rattle.logic.specs.declared.Found.the-variants.{At, Nothing}
 use Rattle.entry.specs.declared.PageState.{PageState}
-use Rattle.entry.specs.declared.Slot.{Slot}
 use Rattle.entry.specs.declared.Slot.the-variants.{Empty, Held}
 use Rattle.entry.specs.Entry.{newState}
-use Rattle.node.specs.declared.Node.{Node}
 use Rattle.node.specs.Node.{hiddenOf, outOf}
 use Rattle.tables.specs.Tables.{nodeOf, slotAt}
-use Rattle.frames.specs.Frames.{freeCount, freeFrameIn, clearedAt}
+use Rattle.frames.specs.Frames.{freeCount, freeFrameIn}
 use Rattle.lookup.specs.declared.Looked.{Looked}
 use Rattle.lookup.specs.declared.Looked.the-variants.{Shared, Zero, Own, New, NoMemory, Stopped}
-use Rattle.lookup.specs.Work.{Work, workOf, Looking, lookingOf}
-use Rattle.lookup.specs.Lookup.{asksOf, withTold, kept, cleared, fresh, freshBy, leafTold, settleBy, settle, handedBy, handed, holdsOf, enter, look}
+use Rattle.lookup.specs.Work.{Work, Looking, lookingOf}
+use Rattle.lookup.specs.Lookup.{asksOf, withTold, kept, cleared, fresh, freshBy, leafTold, settleBy, settle, handedBy, holdsOf, enter, look}
 use Rattle.sound.specs.Facts.{Leaf, Holds}
-use Rattle.isolation.specs.Walk.{Links, Near, View, Over}
+use Rattle.isolation.specs.Walk.{Near, View, Over}
 use Rattle.isolation.specs.Walk.Near.{none, here, up}
 use Rattle.isolation.specs.Walk.View.{own, above}
-use Rattle.isolation.specs.Walk.Over.{parent, higher}
 use Rattle.isolation.specs.Private.{linksOf}
-use Rattle.isolation.specs.Need.{passing, needAbove, orFresh, unlessHeld}
-use Rattle.isolation.proofs.Pass.{held-one, held-not, true-not, Place, place, Views, Aside, views-aside, view-one}
-use Rattle.isolation.proofs.Pass.Place.{there, elsewhere}
+use Rattle.isolation.specs.Need.{needAbove, orFresh, unlessHeld}
+use Rattle.isolation.proofs.Pass.{held-one, held-not, true-not}
 use Rattle.isolation.proofs.Table.{Wrote, others}
-use Rattle.isolation.proofs.Rows.{put-in}
-use Rattle.isolation.proofs.Frames.{Idle, free-idle, one-less, none-free, not-idle, frame-taken}
-use Rattle.isolation.proofs.Bytes.{cleared-length, cleared-same, cleared-other}
-use Rattle.isolation.proofs.Wood.{Ground, asked, asks-same, height, lower, leaf-kind}
+use Rattle.isolation.proofs.Frames.{free-idle, one-less, none-free}
+use Rattle.isolation.proofs.Bytes.{cleared-same}
+use Rattle.isolation.proofs.Wood.{Ground, asks-same, height, lower, leaf-kind}
 use Rattle.isolation.proofs.State.{Alike, Ok, Step, step-same, step-then, kept-wrote}
-use Rattle.isolation.proofs.Done.{by-pick, holds-not, holds-some, Costs, Lent, Handed, Fresh, Bare, Short, Post}
+use Rattle.isolation.proofs.Done.{by-pick, holds-not, holds-some, Fresh, Post, Served}
+use Rattle.isolation.proofs.Fresh.{fresh-step}
 use Rattle.isolation.proofs.Ask.{need-none, need-some, ask}
-
--- a cleared frame goes to an empty page that nothing reaches
-module _ (N : List ℕ) (G : Ground N) (L F : ℕ) (l p : ℕ) (leaf : Leaf N l) (size : p < nodeOf N l .size) (s : Work) (o : Ok N L F s) (bare : slotAt (s .pages) l p ≡ Empty)
-    (view : View (linksOf N) (slotAt (s .pages)) l p Nothing) (g : ℕ) (free : freeFrameIn (s .used) ≡ At g) where
-  abbrev new : Work
-  new = workOf (s .pages) (set (s .used) g 1) (clearedAt L (s .memory) g) (s .told)
-
-  idle : Idle (s .used) g
-  idle = free-idle (s .used) g free
-
-  in-g : g < F
-  in-g = let k = idle .below in let u = o .used in omega arith
-
-  wrote : Wrote (s .pages) (kept new l p g .pages) l p (Held (newState g))
-  wrote = kept-wrote N G L F new l p g (o .pages) size (let k = o .few in let m = in-g in omega arith)
-
-  away : (a b : ℕ) (e : PageState) → Holds (s .pages) a b e → Alike L (s .memory) (new .memory) (At (e .frame)) (At (e .frame))
-  away a b e x k h = cleared-other L F (s .memory) (o .memory) g in-g (e .frame) k h (not-idle (o .entries) idle a b e x)
-
-  aside : Aside (linksOf N) (Alike L (s .memory) (new .memory)) (slotAt (s .pages)) (slotAt (kept new l p g .pages))
-  aside =
-      record {
-        rest = λ n j b a. others wrote (linksOf N .par n) b (λ x y. leaf-kind N G (linksOf N .par n) (rw x leaf) (asked N G n j a .hidden));
-        keep = λ n j b e a x. away (linksOf N .par n) b e x;
-        zeros = λ k h. refl;
-      }
-
-  views-by : (n q : ℕ) (x : Found) → View (linksOf N) (slotAt (s .pages)) n q x → Place n q l p → Views (linksOf N) (Alike L (s .memory) (new .memory)) (slotAt (kept new l p g .pages)) n q x
-  views-by n q x d (there i j) =
-      let e : x ≡ Nothing = view-one (subst₂ (λ (a b : ℕ). View (linksOf N) (slotAt (s .pages)) a b x) i j d) view in
-      (At g, own {s = newState g} (rw (i, j) (wrote .same)) refl, rw e (cleared-same L F (s .memory) (o .memory) g in-g))
-  views-by n q x d (elsewhere ne) =
-      views-aside (linksOf N) (Alike L (s .memory) (new .memory)) (slotAt (s .pages)) (slotAt (kept new l p g .pages)) aside n q x (others wrote n q ne) (away n q) d
-
-  pub fresh-step : Step N L F s (kept new l p g)
-  fresh-step =
-      record {
-        ok = record {
-          few = o .few;
-          pages = wrote .size ∙ o .pages;
-          used = length-set (s .used) g 1 ∙ o .used;
-          memory = cleared-length L F (s .memory) (o .memory) g in-g;
-          entries = put-in (frame-taken (o .entries) idle) bare size wrote;
-        };
-        views = λ n q x f d. views-by n q x d (place n q l p);
-      }
-
--- what the leaf's lookup answers, where its page reads x and takes n frames
-pub record Yields (L F : ℕ) (s : Work) (l p : ℕ) (x : Found) (w : Bool) (n f : ℕ) (s′ : Work) : Type 0 where
-  pub bytes : Alike L (s .memory) (s′ .memory) x (At f)
-  pub frame : f < F
-  pub own : w ≡ true → (e : PageState) × Holds (s′ .pages) l p e × (e .frame ≡ f)
-  pub taken : w ≡ true → freeCount (s .used) ≡ freeCount (s′ .used) + n
-  pub untaken : w ≡ false → s′ .used ≡ s .used
-
-pub record Lacks (s : Work) (w : Bool) (n : ℕ) (s′ : Work) : Type 0 where
-  pub writing : w ≡ true
-  pub no-frame : freeFrameIn (s′ .used) ≡ Nothing
-  pub short : freeCount (s .used) < n
-
-abbrev pub Says : (L F : ℕ) (s : Work) (l p : ℕ) (x : Found) (w : Bool) (n : ℕ) → Looked → Work → Type 0
-Says L F s l p x w n (Shared f) s′ = Yields L F s l p x w n f s′
-Says L F s l p x w n Zero s′ = Bare s x w s′
-Says L F s l p x w n NoMemory s′ = Lacks s w n s′
-Says L F s l p x w n (Own f u) s′ = ⊥
-Says L F s l p x w n (New g) s′ = ⊥
-Says L F s l p x w n Stopped s′ = ⊥
-
-pub record Served (N : List ℕ) (L F : ℕ) (s : Work) (l p : ℕ) (x : Found) (w : Bool) (n : ℕ) (z : Looking) : Type 0 where
-  pub step : Step N L F s (z .work)
-  pub only : (a b : ℕ) → (a ≡ l → b ≡ p → ⊥) → (Over (linksOf N) l p a b → ⊥) → slotAt (z .work .pages) a b ≡ slotAt (s .pages) a b
-  pub says : Says L F s l p x w n (z .answer) (z .work)
 
 module _ (N : List ℕ) (G : Ground N) (M : List ℕ) (L F : ℕ) (l p : ℕ) (leaf : Leaf N l) (size : p < nodeOf N l .size) (s : Work) (x : Found) (w : Bool) (asker : ℕ) (o : Ok N L F s)
     (view : View (linksOf N) (slotAt (s .pages)) l p x) where

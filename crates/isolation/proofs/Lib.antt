@@ -8,8 +8,10 @@ pub mod Wood
 pub mod State
 pub mod Done
 pub mod Then
+pub mod Move
 pub mod Hand
 pub mod Ask
+pub mod Fresh
 pub mod Leaf
 pub mod Look
 pub mod Put

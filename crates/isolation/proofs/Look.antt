@@ -1,28 +1,25 @@
 -- Page lookup keeps every object's array, and answers what the array says. Assumes nothing.
-use mathlib.Core.Path.{_≡_, refl, sym, ap, _∙_, subst}
-use mathlib.Core.Bool.{Bool, true, false}
-use mathlib.Core.List.{List}
-use Prim.Native.Nat.{ℕ, _+_, _*_, _≤_, _<_}
-use native.Mathlib.Omega.{arith}
+use mathlib.Core.Path.{refl, sym, ap, _∙_}
+use mathlib.Core.Bool.{Bool}
+use Prim.Native.Nat.{ℕ, _<_}
 use lib.ListN.{length, getD}
 use Rattle.logic.specs.declared.Found.{Found}
-use Rattle.logic.specs.declared.Found.the-variants.{At, Nothing}
-use Rattle.node.specs.declared.Node.{Node}
 use Rattle.tables.specs.Pool.{Pool}
-use Rattle.tables.specs.Tables.{nodeOf, slotAt}
+use Rattle.tables.specs.Tables.{nodeOf}
 use Rattle.notices.specs.Notices.{Told}
 use Rattle.lookup.specs.declared.Looked.{Looked}
 use Rattle.lookup.specs.declared.Looked.the-variants.{Shared, Zero, Own, New, NoMemory, Stopped}
-use Rattle.lookup.specs.Work.{Work, Looking}
+use Rattle.lookup.specs.Work.{Work}
 use Rattle.lookup.specs.Lookup.{look}
-use Rattle.sound.specs.Facts.{Leaf, Lengths, Sound}
+use Rattle.sound.specs.Facts.{Leaf}
 use Rattle.isolation.specs.Walk.{byteOf}
-use Rattle.isolation.specs.Private.{linksOf, Shows, Private}
-use Rattle.isolation.specs.Need.{need, needAbove}
-use Rattle.isolation.specs.Kept.{poolWith, workIn, Gives, Zeros, Refuses, Answers, Kept}
+use Rattle.isolation.specs.Private.{Shows, Private}
+use Rattle.isolation.specs.Need.{need}
+use Rattle.isolation.specs.Kept.{poolWith, workIn, Answers, Kept}
 use Rattle.isolation.proofs.Wood.{Ground, height-most}
-use Rattle.isolation.proofs.State.{Alike, Ok, Step}
-use Rattle.isolation.proofs.Leaf.{Yields, Lacks, Says, Served, served}
+use Rattle.isolation.proofs.State.{Ok, Step}
+use Rattle.isolation.proofs.Done.{Says}
+use Rattle.isolation.proofs.Leaf.{served}
 
 module _ (L : ℕ) (A : ℕ → ℕ → ℕ → ℕ) (p : Pool) (P : Private L A p) where
   pub ground : Ground (p .nodes)

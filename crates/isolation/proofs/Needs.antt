@@ -8,7 +8,6 @@ use Rattle.logic.specs.Pick.{pick}
 use Rattle.logic.specs.declared.Found.{Found}
 use Rattle.logic.specs.declared.Found.the-variants.{Nothing}
 use Rattle.entry.specs.declared.Slot.{Slot}
-use Rattle.node.specs.declared.Node.{Node}
 use Rattle.tables.specs.Pool.{Pool}
 use Rattle.tables.specs.Tables.{nodeOf, slotAt}
 use Rattle.frames.specs.Frames.{freeCount}
@@ -19,11 +18,11 @@ use Rattle.lookup.specs.Work.{Work, Looking}
 use Rattle.sound.specs.Facts.{Leaf}
 use Rattle.isolation.specs.Walk.{Links, Over, byteOf}
 use Rattle.isolation.specs.Walk.Over.{parent, higher}
-use Rattle.isolation.specs.Private.{linksOf, Private, Shows}
+use Rattle.isolation.specs.Private.{linksOf, Private}
 use Rattle.isolation.specs.Need.{passing, needAbove, need}
-use Rattle.isolation.specs.Kept.{workIn, Gives, Refuses, Answers, Kept}
+use Rattle.isolation.specs.Kept.{Answers, Kept}
 use Rattle.isolation.proofs.Pass.{true-not, view-one}
-use Rattle.isolation.proofs.Wood.{Ground, height, lower}
+use Rattle.isolation.proofs.Wood.{Ground, height}
 use Rattle.isolation.proofs.Ask.{over-low}
 use Rattle.isolation.proofs.Look.{ground}
 

@@ -9,17 +9,14 @@ use lib.ListN.{length, getD}
 use borrow.Author.Tests.{eqb-true, eq-eqb, le-leb, lt-leb, lt-ltb, le-ltb}
 use Rattle.logic.specs.Pick.{pick}
 use Rattle.logic.specs.declared.Found.{Found}
-use Rattle.logic.specs.declared.Found.the-variants.{At, Nothing}
-use Rattle.logic.proofs.Means.{less, most, split}
+use Rattle.logic.specs.declared.Found.the-variants.{At}
+use Rattle.logic.proofs.Means.{less, split}
 use Rattle.entry.specs.declared.PageState.{PageState}
-use Rattle.entry.specs.declared.Slot.{Slot}
-use Rattle.entry.specs.declared.Slot.the-variants.{Held}
-use Rattle.node.specs.declared.Node.{Node}
 use Rattle.tables.specs.Pool.{Pool, poolOf}
 use Rattle.tables.specs.Tables.{nodeOf, slotAt}
 use Rattle.frames.specs.Frames.{pastedAt}
-use Rattle.sound.specs.Facts.{Leaf, Holds, Sound, Lengths}
-use Rattle.isolation.specs.Walk.{Links, View, byteOf}
+use Rattle.sound.specs.Facts.{Leaf, Holds}
+use Rattle.isolation.specs.Walk.{View, byteOf}
 use Rattle.isolation.specs.Walk.View.{own, above}
 use Rattle.isolation.specs.Private.{linksOf, Shows, Private, put}
 use Rattle.isolation.proofs.Pass.{held-one, held-not, Place, place, Aside, views-aside}

@@ -1,25 +1,22 @@
 -- The facts of the page entries, kept as a frame is taken out of one entry and stands in another. Assumes nothing.
-use mathlib.Core.Path.{_≡_, refl, sym, ap, _∙_}
+use mathlib.Core.Path.{_≡_, refl, sym, _∙_}
 use mathlib.Core.List.{List}
-use Prim.Native.Nat.{ℕ, _+_, _≤_, _<_}
+use Prim.Native.Nat.{ℕ, _≤_, _<_}
 use native.Mathlib.Omega.{arith}
-use lib.ListN.{length, getD, set, length-set}
-use lib.Seq.{getD-set-same, getD-set-other}
+use lib.ListN.{length, getD}
 use Rattle.logic.specs.Below.{sumBelow}
 use Rattle.logic.proofs.Means.{equal, split}
 use Rattle.entry.specs.declared.PageState.{PageState}
-use Rattle.entry.specs.declared.PageStateTag.{PageStateTag}
 use Rattle.entry.specs.declared.PageStateTag.the-variants.{Owned}
 use Rattle.entry.specs.declared.Slot.{Slot}
 use Rattle.entry.specs.declared.Slot.the-variants.{Empty, Held}
-use Rattle.entry.specs.Entry.{entryWord, newState, taggedOf}
-use Rattle.node.specs.declared.Node.{Node}
+use Rattle.entry.specs.Entry.{entryWord, newState}
 use Rattle.tables.specs.Tables.{nodeOf, entryOf, slotAt}
 use Rattle.sound.specs.Facts.{Hidden, Holds, pinsOf, Stands, Entries}
 use Rattle.soundness.proofs.Sums.{sum-le}
 use Rattle.isolation.proofs.Pass.{held-one, held-not, Place, place}
 use Rattle.isolation.proofs.Pass.Place.{there, elsewhere}
-use Rattle.isolation.proofs.Table.{wordFor, Wrote, others}
+use Rattle.isolation.proofs.Table.{Wrote, others}
 
 -- the facts of single entries and rows, in a pool of F frames
 

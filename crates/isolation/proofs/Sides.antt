@@ -1,12 +1,10 @@
 -- The two children of a hidden node, their sides and each other. Assumes nothing.
-use mathlib.Core.Path.{_≡_, refl, sym, ap, _∙_}
-use mathlib.Core.Bool.{Bool, true, false, _&&_}
+use mathlib.Core.Path.{_≡_, refl, sym, _∙_}
+use mathlib.Core.Bool.{true}
 use mathlib.Core.Logic.{_⊎_, inl, inr}
 use Prim.Native.Nat.{ℕ, _+_, _-_}
 use native.Mathlib.Omega.{arith}
-use lib.Dec.{eqb}
 use borrow.Author.Tests.{eq-eqb, ne-eqb}
-use Rattle.logic.specs.Pick.{pick}
 use Rattle.entry.specs.declared.PageStateTag.{PageStateTag}
 use Rattle.entry.specs.declared.PageStateTag.the-variants.{Owned, LeftSplit, RightSplit}
 use Rattle.entry.specs.Entry.{splitOf}

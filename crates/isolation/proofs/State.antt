@@ -1,30 +1,27 @@
 -- What a lookup changes, as one state; and the step that passes a frame from a parent's entry to its child's. Assumes nothing.
 use mathlib.Core.Path.{_≡_, refl, sym, ap, _∙_}
-use mathlib.Core.Bool.{Bool, true, false}
+use mathlib.Core.Bool.{true}
 use mathlib.Core.List.{List}
 use Prim.Native.Nat.{ℕ, _+_, _*_, _≤_, _<_}
 use native.Mathlib.Omega.{arith}
-use lib.ListN.{length, getD}
+use lib.ListN.{length}
 use Rattle.logic.specs.declared.Found.{Found}
-use Rattle.logic.specs.declared.Found.the-variants.{At, Nothing}
+use Rattle.logic.specs.declared.Found.the-variants.{At}
 use Rattle.entry.specs.declared.PageState.{PageState}
-use Rattle.entry.specs.declared.PageStateTag.the-variants.{Owned}
-use Rattle.entry.specs.declared.Slot.{Slot}
 use Rattle.entry.specs.declared.Slot.the-variants.{Empty, Held}
 use Rattle.entry.specs.Entry.{newState}
-use Rattle.node.specs.declared.Node.{Node}
-use Rattle.tables.specs.Tables.{nodeOf, slotAt, withState}
-use Rattle.lookup.specs.Work.{Work, workOf}
+use Rattle.tables.specs.Tables.{nodeOf, slotAt}
+use Rattle.lookup.specs.Work.{Work}
 use Rattle.lookup.specs.Lookup.{withTold, kept}
 use Rattle.notices.specs.Notices.{Told}
-use Rattle.sound.specs.Facts.{Leaf, Hidden, Holds, Entries}
-use Rattle.isolation.specs.Walk.{Links, Near, View, byteOf}
+use Rattle.sound.specs.Facts.{Leaf, Holds, Entries}
+use Rattle.isolation.specs.Walk.{View, byteOf}
 use Rattle.isolation.specs.Private.{linksOf}
 use Rattle.isolation.proofs.Pass.{Climbs, Pass, Views, views}
 use Rattle.isolation.proofs.Table.{Wrote, others, wrote-state}
 use Rattle.isolation.proofs.Rows.{Loose, put-in}
-use Rattle.isolation.proofs.Sides.{Sided, side-owned}
-use Rattle.isolation.proofs.Wood.{Asked, Ground, asked, live-low, sized-live, lower, leaf-kind, height}
+use Rattle.isolation.proofs.Sides.{side-owned}
+use Rattle.isolation.proofs.Wood.{Ground, asked, live-low, sized-live, lower, leaf-kind, height}
 
 -- the same L bytes
 abbrev pub Alike : ℕ → List ℕ → List ℕ → Found → Found → Type 0

@@ -14,7 +14,7 @@ use Rattle.lookup.specs.Lookup.{kept}
 use Rattle.isolation.specs.Need.{oneIf, more, orFresh}
 use Rattle.isolation.proofs.Wood.{Ground}
 use Rattle.isolation.proofs.State.{Alike, Step, step-then}
-use Rattle.isolation.proofs.Done.{Costs, Lent, Handed, Fresh, Bare, Short, Done}
+use Rattle.isolation.proofs.Done.{Costs, Done}
 
 at-not : {A : Type 0} {f : ℕ} → At f ≡ Nothing → A
 at-not e = let z : _≡_ {A = ℕ} 0 1 = cc in absurd (omega arith)

@@ -1,25 +1,22 @@
 -- The table of nodes in a sound pool whose windows are whole, as a lookup relies on it. Assumes nothing.
-use mathlib.Core.Path.{_≡_, refl, sym, ap, _∙_, subst}
-use mathlib.Core.Bool.{Bool, true, false, _&&_, _||_, not}
+use mathlib.Core.Path.{_≡_, refl, ap}
+use mathlib.Core.Bool.{Bool, true, false, _&&_, not}
 use mathlib.Core.List.{List}
-use Prim.Native.Nat.{ℕ, zero, suc, _+_, _-_, _*_, _≤_, _<_}
+use Prim.Native.Nat.{ℕ, zero, suc, _+_, _-_, _≤_, _<_}
 use native.Mathlib.Omega.{arith}
-use lib.Dec.{eqb, leb, ltb}
+use lib.Dec.{eqb}
 use lib.ListN.{length}
-use borrow.Author.Tests.{eqb-true, eqb-false, ne-eqb, eq-eqb, leb-false, lt-leb, le-leb, lt-ltb, not-true}
-use Rattle.logic.specs.Pick.{pick}
+use borrow.Author.Tests.{eqb-false, ne-eqb, eq-eqb, leb-false, lt-leb, le-leb, lt-ltb, not-true}
 use Rattle.logic.specs.Below.{sumBelow}
 use Rattle.logic.proofs.Means.{equal, less, split}
 use Rattle.logic.proofs.Laws.{and-left, and-right, and-both}
 use Rattle.node.specs.declared.Node.{Node}
-use Rattle.node.specs.declared.Side.{Side}
-use Rattle.node.specs.Node.{hiddenOf, leafOf, windowOf, outOf, sideOf}
+use Rattle.node.specs.Node.{hiddenOf, leafOf, windowOf, outOf}
 use Rattle.tables.specs.Tables.{nodeOf}
 use Rattle.lookup.specs.Lookup.{asksOf}
 use Rattle.sound.specs.Facts.{Live, Hidden, Leaf, Tree}
 use Rattle.soundness.proofs.Records.{node-out}
-use Rattle.soundness.proofs.Chains.{rank, rank-root, rank-up, rank-most}
-use Rattle.isolation.specs.Walk.{Links}
+use Rattle.soundness.proofs.Chains.{rank, rank-up, rank-most}
 use Rattle.isolation.specs.Private.{linksOf, Windows}
 use Rattle.isolation.proofs.Sides.{Sided, sided-by}
 

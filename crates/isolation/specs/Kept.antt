@@ -1,7 +1,6 @@
 -- What page lookup keeps and answers, on a pool whose objects are private arrays.
 use mathlib.Core.Path.{_≡_}
 use mathlib.Core.Bool.{Bool, true, false}
-use mathlib.Core.List.{List}
 use Prim.Native.Nat.{ℕ, _+_, _*_, _<_}
 use lib.ListN.{length, getD}
 use Rattle.logic.specs.declared.Found.the-variants.{Nothing}

@@ -5,7 +5,6 @@ use Prim.Native.Nat.{ℕ, zero, suc, _+_}
 use Rattle.logic.specs.Pick.{pick}
 use Rattle.logic.specs.declared.Found.{Found}
 use Rattle.logic.specs.declared.Found.the-variants.{At, Nothing}
-use Rattle.entry.specs.declared.PageState.{PageState}
 use Rattle.entry.specs.declared.Slot.{Slot}
 use Rattle.entry.specs.declared.Slot.the-variants.{Empty, Held}
 use Rattle.entry.specs.Entry.{splitOf}

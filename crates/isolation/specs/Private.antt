@@ -1,14 +1,12 @@
 -- The invariant of isolation: a sound pool in which every object's page reads an array of the object's own.
 use mathlib.Core.Path.{_≡_}
-use mathlib.Core.Bool.{Bool, _&&_, not}
+use mathlib.Core.Bool.{_&&_, not}
 use mathlib.Core.List.{List}
 use Prim.Native.Nat.{ℕ, _+_, _-_, _≤_, _<_}
 use lib.Dec.{eqb, leb, ltb}
 use lib.ListN.{getD}
 use Rattle.logic.specs.Pick.{pick}
 use Rattle.logic.specs.declared.Found.{Found}
-use Rattle.node.specs.declared.Node.{Node}
-use Rattle.node.specs.declared.Side.{Side}
 use Rattle.node.specs.Node.{windowOf, outOf, sideOf}
 use Rattle.tables.specs.Pool.{Pool}
 use Rattle.tables.specs.Tables.{nodeOf, slotAt}
