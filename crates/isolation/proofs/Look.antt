@@ -87,3 +87,8 @@ module _ (L : ℕ) (A : ℕ → ℕ → ℕ → ℕ) (p : Pool) (P : Private L A
           only = s .only;
           answers = answered (r .answer) (r .work) (s .step) (s .says);
         }
+
+-- the same of a lookup that goes on from what an earlier one left
+pub look-goes-on : (L : ℕ) (A : ℕ → ℕ → ℕ → ℕ) (p : Pool) (w : Work) → Private L A (poolWith p w) → (l i : ℕ) (write : Bool) → Leaf (p .nodes) l → i < nodeOf (p .nodes) l .size
+    → Kept L A (poolWith p w) (w .told) l i write (look L 64 (p .nodes) (p .mappings) w l i write l)
+look-goes-on L A p w P l i write leaf low = look-keeps L A (poolWith p w) P (w .told) l i write leaf low

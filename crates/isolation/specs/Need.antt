@@ -15,16 +15,18 @@ use Rattle.isolation.specs.Private.{linksOf}
 abbrev pub oneIf : Bool → ℕ
 oneIf b = pick b 1 0
 
+-- so many more, where there is an entry at all
 abbrev pub more : Found → ℕ → Found
 more (At k) n = At (k + n)
 more Nothing n = Nothing
 
+-- a node passes a frame to its child, its own entry's or, x, one that comes down to it: a copy if the other child has the page too, unless the
+-- entry is split already
 abbrev pub passing : Slot → Bool → Found → Found
 passing (Held s) both x = At (oneIf (both && not (splitOf (s .tag))))
 passing Empty both x = more x (oneIf both)
 
--- the nearest entry's frame comes down to page p of n: a copy is made at each node that passes it where the other child has the page too, unless
--- the entry is split already; Nothing if there is no entry above. `left` parents may still be asked
+-- the copies made where the nearest entry's frame comes down to page p of n; Nothing if there is no entry above. `left` parents may still be asked
 unfoldable pub needAbove : Links → (ℕ → ℕ → Slot) → ℕ → ℕ → ℕ → Found
 needAbove T E zero n p = Nothing
 needAbove T E (suc left) n p =
@@ -41,5 +43,6 @@ abbrev pub unlessHeld : Slot → ℕ → ℕ
 unlessHeld (Held s) n = 0
 unlessHeld Empty n = n
 
+-- the frames that a write of page p of node n takes
 unfoldable pub need : List ℕ → List ℕ → ℕ → ℕ → ℕ
 need N P n p = unlessHeld (slotAt P n p) (orFresh (needAbove (linksOf N) (slotAt P) 64 n p))

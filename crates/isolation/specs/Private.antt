@@ -1,4 +1,5 @@
--- The invariant of isolation: a sound pool in which every object's page reads an array of the object's own.
+-- The invariant of isolation: a sound pool in which every object's page reads an array of the object's own, for pages of L bytes (any L; with 0
+-- nothing is said of bytes).
 use mathlib.Core.Path.{_≡_}
 use mathlib.Core.Bool.{_&&_, not}
 use mathlib.Core.List.{List}
