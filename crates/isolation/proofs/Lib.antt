@@ -16,3 +16,4 @@ pub mod Leaf
 pub mod Look
 pub mod Put
 pub mod Needs
+pub mod Cases
