@@ -45,14 +45,14 @@ module _ (N : List ℕ) (len : length N ≡ 1024) where
   height-above (up n e t) = ap (λ (l : ℕ). above N (height t) (linkedOf N l 1)) e ∙ ap (above N (height t)) (parent-is n) ∙ height-above t
 
   module _ (inside : (n h : ℕ) → nodeOf N n .parent ≡ h + 1 → h < 64) (chains : (n : ℕ) → Ends N (n + 1)) where
-    rank : ℕ → ℕ
+    pub rank : ℕ → ℕ
     rank n = height (chains n)
 
-    rank-root : (n : ℕ) → nodeOf N n .parent ≡ 0 → rank n ≡ 1
+    pub rank-root : (n : ℕ) → nodeOf N n .parent ≡ 0 → rank n ≡ 1
     unfolding rank height
     rank-root n e = height-same (chains n) (up n refl (none e)) refl
 
-    rank-up : (n h : ℕ) → nodeOf N n .parent ≡ h + 1 → rank n ≡ suc (rank h)
+    pub rank-up : (n h : ℕ) → nodeOf N n .parent ≡ h + 1 → rank n ≡ suc (rank h)
     unfolding rank height
     rank-up n h e =
         let t : Ends N (nodeOf N n .parent) = rw e (chains h) in
@@ -71,7 +71,7 @@ module _ (N : List ℕ) (len : length N ≡ 1024) where
         let d = depth k h (inside n h p) (omega arith) in
         omega arith)
 
-    rank-most : (n : ℕ) → rank n ≤ 64
+    pub rank-most : (n : ℕ) → rank n ≤ 64
     rank-most n =
         split (less n 64)
         (λ l. let d = depth (rank n) n l refl in let q = sum-most (λ j. min 1 (suc (rank n) - rank j)) 1 64 (λ j. omega arith) in omega arith)

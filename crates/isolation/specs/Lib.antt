@@ -1,0 +1,4 @@
+pub mod Walk
+pub mod Private
+pub mod Need
+pub mod Kept
