@@ -9,15 +9,7 @@ use lib.ListN.{length, getD, set}
 use borrow.Author.Tests.{le-leb, lt-leb}
 use Rattle.logic.specs.Below.{copied, zeroed}
 use Rattle.logic.proofs.Laws.{copied-outside}
-<<<<<<< HEAD
-use Rattle.frames.specs.Frames.{idleOf, pastedAt, blankAt, clearedAt, copiedAt}
-
-pub idle-in : (used : List ℕ) (f : ℕ) → f < length used → eqb (getD used f 0) 0 ≡ idleOf used f
-unfolding idleOf
-idle-in used f h = rw (lt-ltb _ _ h)
-=======
-use Rattle.frames.specs.Frames.{pastedAt, clearedAt, copiedAt}
->>>>>>> help-a
+use Rattle.frames.specs.Frames.{pastedAt, blankAt, copiedAt}
 
 pub zero-turn : (m : List ℕ) (a k : ℕ) {s : List ℕ} → s ≡ zeroed m a k → set s (a + k) 0 ≡ zeroed m a (k + 1)
 unfolding zeroed
