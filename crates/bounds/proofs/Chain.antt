@@ -46,3 +46,6 @@ module _ {N : List ℕ} (s : Short N) where
       let a = above-add N 64 (64 * d) l in
       let b = ap (above N (64 * d)) (s .ends l) ∙ above-none N (64 * d) in
       sym (rw z at (again (suc d) l 64 e)) ∙ a ∙ b
+
+pub ends-by-65 : {N : List ℕ} → Short N → (l : ℕ) → above N 65 l ≡ 0
+ends-by-65 {N} s l = above-add N 64 1 l ∙ ap (above N 1) (s .ends l) ∙ above-none N 1

@@ -12,7 +12,7 @@ use Rattle.lookup.specs.Work.{Work, Looking, lookingOf}
 use Rattle.lookup.specs.Lookup.{asksOf, enter, look}
 use Rattle.logic.proofs.Means.{equal, split}
 use Rattle.soundness.proofs.Ancestors.{above, above-none, above-add}
-use Rattle.bounds.proofs.Chain.{Short, sound-short, above-next}
+use Rattle.bounds.proofs.Chain.{Short, sound-short, above-next, ends-by-65}
 
 -- a node without a parent asks none
 
@@ -43,5 +43,4 @@ module _ (L : ℕ) {N : List ℕ} (s : Short N) (M : List ℕ) (w : Work) (write
 pub chain-enough : (L : ℕ) (p : Pool) → Sound L p → (k : ℕ) (M : List ℕ) (w : Work) (node i : ℕ) (write : Bool) (asker : ℕ) → look L 64 (p .nodes) M w node i write asker ≡ look L (64 + k) (p .nodes) M w node i write asker
 chain-enough L p sound k M w node i write asker =
     let s = sound-short L p sound in
-    let e = above-add (p .nodes) 64 1 (node + 1) ∙ ap (above (p .nodes) 1) (s .ends (node + 1)) ∙ above-none (p .nodes) 1 in
-    look-enough L s M w write 64 k node i asker e
+    look-enough L s M w write 64 k node i asker (ends-by-65 s (node + 1))

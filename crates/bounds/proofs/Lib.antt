@@ -1,3 +1,4 @@
 pub mod Chain
 pub mod Enough
 pub mod Ranges
+pub mod Quiet
