@@ -2,3 +2,4 @@ pub mod Chain
 pub mod Enough
 pub mod Ranges
 pub mod Quiet
+pub mod Adding

@@ -15,7 +15,7 @@ unfolding sumBelow
 sum-most f c zero h = omega arith
 sum-most f c (suc m) h = let q = sum-most f c m h in let r = h m in omega arith
 
-sum-le : (f g : ℕ → ℕ) (m : ℕ) → ((j : ℕ) → f j ≤ g j) → sumBelow f m ≤ sumBelow g m
+pub sum-le : (f g : ℕ → ℕ) (m : ℕ) → ((j : ℕ) → f j ≤ g j) → sumBelow f m ≤ sumBelow g m
 unfolding sumBelow
 sum-le f g zero h = omega arith
 sum-le f g (suc m) h = let q = sum-le f g m h in let r = h m in omega arith
