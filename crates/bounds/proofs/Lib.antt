@@ -3,3 +3,5 @@ pub mod Enough
 pub mod Ranges
 pub mod Quiet
 pub mod Adding
+pub mod Once
+pub mod Family
