@@ -5,3 +5,4 @@ pub mod Quiet
 pub mod Adding
 pub mod Once
 pub mod Family
+pub mod Heard

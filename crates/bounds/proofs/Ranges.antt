@@ -27,7 +27,10 @@ abbrev pub Under : List ℕ → ℕ → ℕ → Type 0
 Under N h c = nodeOf N c .parent ≡ h + 1
 
 pub named-under : {N : List ℕ} {h link : ℕ} → Names N h link → Under N h (childOf link)
-named-under {N} m = rw (m .linked, child-is (m .node)) (m .parent)
+named-under m = rw (m .linked, child-is (m .node)) (m .parent)
+
+pub named-link : {N : List ℕ} {h link : ℕ} → Names N h link → link ≡ childOf link + 1
+named-link m = rw (m .linked, child-is (m .node))
 
 module _ {N : List ℕ} (s : Short N) {next : ℕ} (tree : Tree N next) (M : List ℕ) (op j : ℕ) where
   abbrev Enough : ℕ → ℕ → Type 0
