@@ -6,3 +6,4 @@ pub mod Adding
 pub mod Once
 pub mod Family
 pub mod Heard
+pub mod Sent
