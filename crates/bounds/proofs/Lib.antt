@@ -7,3 +7,4 @@ pub mod Once
 pub mod Family
 pub mod Heard
 pub mod Sent
+pub mod Room

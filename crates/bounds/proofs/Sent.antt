@@ -126,7 +126,7 @@ module _ (L : ℕ) (N M : List ℕ) (node i : ℕ) (write : Bool) (asker : ℕ) 
       (sent-after (heard-pick unmap h heard-none) (share-sent s (sideOf n asker .tag) p u y unmap))
       (sent-none _ _ _ _)
 
-  abbrev Settles : (ℕ → Type 0) → Type 0
+  abbrev pub Settles : (ℕ → Type 0) → Type 0
   Settles P = (p u y : List ℕ) (unmap : Bool) → Sent M P (λ t. settle L N M (workOf p u y t) node i write asker unmap)
 
   pub hidden-settles : {P : ℕ → Type 0} → hiddenOf (nodeOf N node) ≡ true → Heard M P (λ t. rangeChange 64 N M (other (nodeOf N node) asker) i (i + 1) 1 t) → Settles P
