@@ -5,9 +5,10 @@ use Prim.Native.Nat.{ℕ, zero, suc, _+_, _*_, _/_, _≤_, _<_}
 use native.Mathlib.Omega.{arith}
 use lib.ListN.{length, getD, set, length-set}
 use lib.Seq.{getD-set-same, getD-set-other}
-use borrow.Author.Tests.{lt-ltb}
+use borrow.Author.Tests.{lt-ltb, le-ltb}
 use Rattle.notices.specs.declared.Notice.{Notice}
 use Rattle.notices.specs.Notices.{Told, toldOf, noticeBy, putNotice}
+use Rattle.logic.proofs.Means.{less, split}
 use Rattle.bounds.specs.Telling.{putAll, noticeIn, Added}
 
 -- four words set
@@ -96,3 +97,18 @@ pub put-both : (ns ms : List Notice) (t : Told) → putAll t (ns ++ ms) ≡ putA
 unfolding putAll
 put-both [] ms t = refl
 put-both (n ∷ ns) ms t = put-both ns ms (putNotice t n)
+
+-- with or without room, no more than are put
+
+put-full : (t : Told) (n : Notice) → length (t .list) / 4 ≤ t .count → putNotice t n ≡ t
+unfolding putNotice
+put-full t n h = rw (le-ltb _ _ h)
+
+put-most : (t : Told) (n : Notice) → putNotice t n .count ≤ t .count + 1
+put-most t n =
+    split (less (t .count) (length (t .list) / 4)) (λ h. rw (put-is t n h) (omega arith)) (λ out. rw (put-full t n (omega arith)) (omega arith))
+
+pub all-most : (ns : List Notice) (t : Told) → putAll t ns .count ≤ t .count + length ns
+unfolding putAll
+all-most [] t = omega arith
+all-most (n ∷ ns) t = let a = all-most ns (putNotice t n) in let b = put-most t n in omega arith

@@ -7,4 +7,5 @@ pub mod Once
 pub mod Family
 pub mod Heard
 pub mod Sent
+pub mod Walk
 pub mod Room

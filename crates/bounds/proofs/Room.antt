@@ -1,93 +1,76 @@
 -- No notice is lost: a lookup sends at most one for each live mapping, and a list with room for these takes them all. Assumes nothing.
-use mathlib.Core.Path.{_≡_, refl, sym, ap, _∙_}
-use mathlib.Core.Bool.{Bool, true, false}
+use mathlib.Core.Path.{_≡_, sym, ap, _∙_}
+use mathlib.Core.Bool.{Bool}
 use mathlib.Core.List.{List}
-use mathlib.Core.Logic.{_⊎_, inl, inr, ⊎-elim}
-use Prim.Native.Nat.{ℕ, zero, suc, _+_, _-_, _/_, _≤_}
+use Prim.Native.Nat.{ℕ, suc, _+_, _*_, _/_, _≤_}
 use native.Mathlib.Omega.{arith}
 use lib.ListN.{length}
-use borrow.Author.Tests.{eq-eqb, ne-eqb}
-use Rattle.node.specs.declared.Node.{Node}
-use Rattle.node.specs.declared.Side.{Side}
-use Rattle.node.specs.Node.{hiddenOf, sideOf}
 use Rattle.tables.specs.Pool.{Pool}
 use Rattle.tables.specs.Tables.{nodeOf}
-use Rattle.notices.specs.Notices.{Told, tellObject, childOf, rangeChange}
-use Rattle.sound.specs.Facts.{Hidden, Leaf, ChildOf, Tree, Sound}
-use Rattle.lookup.specs.declared.Looked.the-variants.{Stopped}
-use Rattle.lookup.specs.Work.{Work, workOf, Looking, lookingOf}
-use Rattle.lookup.specs.Lookup.{other, withTold, enter, look}
+use Rattle.notices.specs.Notices.{Told, tellObject, rangeChange}
+use Rattle.sound.specs.Facts.{Leaf, Sound}
+use Rattle.lookup.specs.Work.{Work, Looking}
+use Rattle.lookup.specs.Lookup.{withTold, look}
 use Rattle.commit.specs.Noted.{liveCount}
-use Rattle.logic.proofs.Means.{equal, split}
-use Rattle.bounds.specs.Telling.{putAll, Tells, Sends, Added}
-use Rattle.bounds.proofs.Chain.{Short, sound-short}
-use Rattle.bounds.proofs.Enough.{alone}
-use Rattle.bounds.proofs.Ranges.{Under, named-under, named-link}
+use Rattle.bounds.specs.Telling.{Tells, Sends, Added}
+use Rattle.bounds.proofs.Chain.{sound-short}
 use Rattle.bounds.proofs.Quiet.{leaf-seen}
-use Rattle.bounds.proofs.Adding.{all-added}
+use Rattle.bounds.proofs.Adding.{all-added, all-most}
 use Rattle.bounds.proofs.Once.{once-few}
-use Rattle.bounds.proofs.Family.{Below, self, below-parent, apart}
-use Rattle.bounds.proofs.Heard.{Heard, heard-in, object-heard, range-heard}
-use Rattle.bounds.proofs.Sent.{Sent, sent-none, sent-in, Settles, hidden-settles, leaf-settles, enter-sent}
+use Rattle.bounds.proofs.Heard.{Heard, object-heard, range-heard}
+use Rattle.bounds.proofs.Walk.{leaf-sent}
 
--- the other child
+-- what is sent is added, where there is room for the most that may be sent
 
-side-left : (n : Node) (c : ℕ) → n .kind ≡ 3 → n .left ≡ c + 1 → sideOf n c .other ≡ n .right
-unfolding sideOf
-side-left n c h e = rw (h, eq-eqb _ _ e)
+module _ {step : Told → Told} {most : ℕ} (s : Tells step most) (t : Told) where
+  pub told-added : t .count + most ≤ length (t .list) / 4 → Added t (s .notices) (step t)
+  told-added room = let f = s .few in rw (s .same t) (all-added (s .notices) t (omega arith))
 
-side-right : (n : Node) (c : ℕ) → n .kind ≡ 3 → (n .left ≡ c + 1 → ⊥) → n .right ≡ c + 1 → sideOf n c .other ≡ n .left
-unfolding sideOf
-side-right n c h ne e = rw (h, ne-eqb _ _ ne, eq-eqb _ _ e)
+  pub told-most : step t .count ≤ t .count + most
+  told-most = let f = s .few in let m = all-most (s .notices) t in rw (s .same t) (omega arith)
 
-module _ {N : List ℕ} (s : Short N) {next : ℕ} (tree : Tree N next) (node asker : ℕ) (under : Under N node asker) where
-  other-child : Under N node (other (nodeOf N node) asker) × (other (nodeOf N node) asker ≡ asker → ⊥)
-  other-child =
-      let (h, c) = tree .parents asker node under in
-      let l = tree .left-child node h in
-      let r = tree .right-child node h in
-      let d = tree .distinct node h in
-      let p = named-link l in
-      let q = named-link r in
-      ⊎-elim
-      (λ e. rw (side-left (nodeOf N node) asker h e) (named-under r, λ z. d (omega arith)))
-      (λ e. rw (side-right (nodeOf N node) asker h (λ x. d (omega arith)) e) (named-under l, λ z. d (omega arith)))
-      c
+module _ {step : Told → Looking} {most : ℕ} (s : Sends step most) (t : Told) where
+  pub sent-added : t .count + most ≤ length (t .list) / 4 → Added t (s .notices) (step t .work .told)
+  sent-added room = let f = s .few in rw (s .same t) (all-added (s .notices) t (omega arith))
 
-  other-heard : (M : List ℕ) (i : ℕ) → Heard M (λ o. Below N node o × (Below N asker o → ⊥)) (λ t. rangeChange 64 N M (other (nodeOf N node) asker) i (i + 1) 1 t)
-  other-heard M i =
-      let o = other (nodeOf N node) asker in
-      let (u, ne) = other-child in
-      heard-in (λ x b. (below-parent s node o x u b, apart s node o asker u under ne x b)) (range-heard s tree M 1 64 o i (i + 1))
+  pub sent-most : step t .work .told .count ≤ t .count + most
+  sent-most = let f = s .few in let m = all-most (s .notices) t in rw (s .same t) (omega arith)
 
--- from a node's child, and from a leaf
+  -- room for k steps more is left
+  pub room-left : (k : ℕ) → t .count + suc k * most ≤ length (t .list) / 4 → step t .work .told .count + k * most ≤ length (step t .work .told .list) / 4
+  room-left k room =
+      let e : suc k * most ≡ most + k * most = omega arith in
+      let r = sent-added (omega arith) .room in
+      let m = sent-most in
+      rw r (omega arith)
 
-module _ (L : ℕ) {N : List ℕ} (s : Short N) {next : ℕ} (tree : Tree N next) (M p u y : List ℕ) (write : Bool) where
-  abbrev Asks : ℕ → ℕ → Type 0
-  Asks k asker = (node i : ℕ) → Under N node asker → Sent M (λ o. Below N asker o → ⊥) (λ t. look L k N M (workOf p u y t) node i write asker)
+-- the steps
 
-  -- a node's step on its parent's, if there is a parent
-  step-sent : {Q R : ℕ → Type 0} (k node i asker : ℕ) → Settles L N M node i write asker Q → ((o : ℕ) → Q o → Below N node o) → ((o : ℕ) → (Below N node o → ⊥) → R o) → ((o : ℕ) → Q o → R o) → Asks k node → Sent M R (λ t. look L (suc k) N M (workOf p u y t) node i write asker)
-  unfolding look
-  step-sent k node i asker settles in-node a b up =
-      split (equal (nodeOf N node .parent) 0)
-      (λ z.
-      sent-in (λ t. alone L N M (workOf p u y t) node i write asker _ (lookingOf Stopped (workOf p u y t)) z) (λ o r. r)
-      (enter-sent L N M node i write asker settles {P = λ o. ⊥} (λ o n q. n) (λ o n. absurd n) b (sent-none Stopped p u y) p u y))
-      (λ ne. enter-sent L N M node i write asker settles (λ o n q. n (in-node o q)) a b (up _ _ (omega arith)) p u y)
+heard-tells : (M : List ℕ) (P : ℕ → Type 0) {step : Told → Told} → Heard M P step → Tells step (liveCount M)
+heard-tells M P h = record { notices = h .notices; few = once-few (h .once); same = h .same }
 
-  abbrev Aside : ℕ → ℕ → ℕ → Type 0
-  Aside node asker o = Below N node o × (Below N asker o → ⊥)
+-- an object's mappings
+pub object-room : (M : List ℕ) (object offset len op : ℕ) → Tells (λ t. tellObject M t 64 object offset len op) (liveCount M)
+object-room M object offset len op = heard-tells M (λ o. o ≡ object) (object-heard M object offset len op)
 
-  settles : (node i asker : ℕ) → Under N node asker → Settles L N M node i write asker (Aside node asker)
-  settles node i asker under = hidden-settles L N M node i write asker (eq-eqb _ _ (tree .parents asker node under .0)) (other-heard s tree node asker under M i)
+-- the mappings of all leaves below a node
+pub range-room : (L : ℕ) (p : Pool) → Sound L p → (M : List ℕ) (node lo hi op : ℕ) → Tells (λ t. rangeChange 64 (p .nodes) M node lo hi op t) (liveCount M)
+range-room L p sound M node lo hi op = heard-tells M _ (range-heard (sound-short L p sound) (sound .tree) M op 64 node lo hi)
 
-  look-sent : (k asker : ℕ) → Asks k asker
-  unfolding look
-  look-sent zero asker node i under =
-      enter-sent L N M node i write asker (settles node i asker under) (λ o n q. n) (λ o n. absurd n) (λ o q. q .1) (sent-none Stopped p u y) p u y
-  look-sent (suc k) asker node i under =
-      step-sent k node i asker (settles node i asker under) (λ o q. q .0) (λ o n b. n (below-parent s node asker o under b)) (λ o q. q .1) (look-sent k node)
+-- a page lookup from a leaf
+pub room-enough : (L : ℕ) (p : Pool) → Sound L p → (M : List ℕ) (w : Work) (l i : ℕ) (write : Bool) → Leaf (p .nodes) l → Sends (λ t. look L 64 (p .nodes) M (withTold w t) l i write l) (liveCount M)
+room-enough L p sound M w l i write leaf =
+    let s =
+    leaf-sent L (sound-short L p sound) (sound .tree) M (w .pages) (w .used) (w .memory) write 63 l i (leaf-seen (nodeOf (p .nodes) l) leaf) in
+    record {
+      answer = s .answer;
+      pages = s .pages;
+      used = s .used;
+      memory = s .memory;
+      notices = s .notices;
+      few = once-few (s .once);
+      same = s .same;
+    }
 
-  pub leaf-sent : (k l i : ℕ) → hiddenOf (nodeOf N l) ≡ false → Sent M (λ o. Unit) (λ t. look L (suc k) N M (workOf p u y t) l i write l)
-  leaf-sent k l i leaf = step-sent k l i l (leaf-settles L N M l i write l leaf) (λ o e. rw e (self l)) (λ o n. tt) (λ o e. tt) (look-sent k l)
+pub none-lost : (L : ℕ) (p : Pool) (sound : Sound L p) (M : List ℕ) (w : Work) (l i : ℕ) (write : Bool) (leaf : Leaf (p .nodes) l) → w .told .count + liveCount M ≤ length (w .told .list) / 4 → Added (w .told) (room-enough L p sound M w l i write leaf .notices) (look L 64 (p .nodes) M w l i write l .work .told)
+none-lost L p sound M w l i write leaf room = sent-added (room-enough L p sound M w l i write leaf) (w .told) room
