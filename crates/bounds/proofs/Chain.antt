@@ -1,18 +1,16 @@
 -- In a sound pool no link has a 64th parent; so no chain comes back to a node. Assumes nothing.
-use mathlib.Core.Path.{_≡_, refl, sym, ap, _∙_}
+use mathlib.Core.Path.{_≡_, sym, ap, _∙_}
 use mathlib.Core.Bool.{_&&_}
 use mathlib.Core.List.{List}
-use Prim.Native.Nat.{ℕ, zero, suc, _+_, _-_, _*_, _≤_, _<_}
+use Prim.Native.Nat.{ℕ, zero, suc, _+_, _*_}
 use native.Mathlib.Omega.{arith}
 use lib.ListN.{getD}
-use Rattle.node.specs.declared.Node.{Node}
 use Rattle.tables.specs.Pool.{Pool}
 use Rattle.tables.specs.Tables.{nodeOf}
 use Rattle.sound.specs.Tree.{linkedOf, nodesOk, chainsEnd, startsOk}
 use Rattle.sound.specs.Sound.{headOk}
 use Rattle.sound.specs.Facts.{Sound}
 use Rattle.logic.proofs.Laws.{and-left, and-right}
-use Rattle.logic.proofs.Means.{less, split}
 use Rattle.soundness.proofs.Records.{linked}
 use Rattle.soundness.proofs.Ancestors.{above, above-none, above-add, chains-mean}
 use Rattle.soundness.proofs.Trees.{tree-means}

@@ -1,17 +1,17 @@
 -- Neither page lookup nor a range change ends for want of steps: 64 do what any more do. Assumes nothing.
 use mathlib.Core.Path.{_≡_, refl, sym, ap, _∙_}
-use mathlib.Core.Bool.{Bool, true, false}
+use mathlib.Core.Bool.{Bool, false}
 use mathlib.Core.List.{List}
-use Prim.Native.Nat.{ℕ, zero, suc, _+_, _-_, _≤_, _<_}
+use Prim.Native.Nat.{ℕ, zero, suc, _+_, _-_}
 use native.Mathlib.Omega.{arith}
 use Rattle.node.specs.declared.Node.{Node}
 use Rattle.tables.specs.Pool.{Pool}
 use Rattle.tables.specs.Tables.{nodeOf}
 use Rattle.sound.specs.Facts.{Sound}
-use Rattle.lookup.specs.Work.{Work, Looking, lookingOf}
+use Rattle.lookup.specs.Work.{Work, Looking}
 use Rattle.lookup.specs.Lookup.{asksOf, enter, look}
 use Rattle.logic.proofs.Means.{equal, split}
-use Rattle.soundness.proofs.Ancestors.{above, above-none, above-add}
+use Rattle.soundness.proofs.Ancestors.{above}
 use Rattle.bounds.proofs.Chain.{Short, sound-short, above-next, ends-by-65}
 
 -- a node without a parent asks none

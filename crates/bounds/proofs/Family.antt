@@ -1,12 +1,10 @@
 -- Nodes below a node: those whose parent chain passes it. Nodes below two children of one node are different ones. Assumes nothing.
 use mathlib.Core.Path.{_≡_, refl, sym, ap, _∙_}
 use mathlib.Core.List.{List}
-use Prim.Native.Nat.{ℕ, zero, suc, _+_, _-_, _≤_, _<_}
+use Prim.Native.Nat.{ℕ, suc, _+_, _-_, _<_}
 use native.Mathlib.Omega.{arith}
-use Rattle.node.specs.declared.Node.{Node}
-use Rattle.tables.specs.Tables.{nodeOf}
-use Rattle.logic.proofs.Means.{equal, less, split}
-use Rattle.soundness.proofs.Ancestors.{above, above-none, above-add}
+use Rattle.logic.proofs.Means.{less, split}
+use Rattle.soundness.proofs.Ancestors.{above, above-add}
 use Rattle.bounds.proofs.Chain.{Short, above-next, no-return}
 use Rattle.bounds.proofs.Ranges.{Under}
 

@@ -2,28 +2,26 @@
 use mathlib.Core.Path.{_≡_, refl, sym, ap, _∙_}
 use mathlib.Core.Bool.{Bool, true, false}
 use mathlib.Core.List.{List, [], _∷_, _++_}
-use Prim.Native.Nat.{ℕ, zero, suc, _+_, _-_, _≤_, _<_, max, min}
+use Prim.Native.Nat.{ℕ, zero, suc, _+_, _-_, _≤_}
 use native.Mathlib.Omega.{arith}
 use lib.Dec.{eqb, ltb}
 use lib.ListN.{length, length-append}
 use borrow.Author.Tests.{eqb-true, ne-eqb}
 use Rattle.logic.specs.Pick.{pick}
 use Rattle.logic.specs.Below.{sumBelow}
-use Rattle.node.specs.declared.Node.{Node}
 use Rattle.node.specs.Node.{hiddenOf}
-use Rattle.tables.specs.declared.Mapping.{Mapping}
 use Rattle.tables.specs.Tables.{nodeOf, mappingOf, numberOf}
 use Rattle.notices.specs.declared.Notice.{Notice}
 use Rattle.notices.specs.declared.Due.{Due}
 use Rattle.notices.specs.declared.Due.the-variants.{Notice as Tell, Nothing}
-use Rattle.notices.specs.Notices.{Told, noticeBy, overlapOf, tellDue, tellPlace, tellObject, lowIn, highIn, childOf, rangeChange}
+use Rattle.notices.specs.Notices.{Told, overlapOf, tellDue, tellPlace, tellObject, lowIn, highIn, childOf, rangeChange}
 use Rattle.sound.specs.Facts.{Hidden, Tree}
 use Rattle.commit.specs.Noted.{liveOne}
 use Rattle.logic.proofs.Means.{equal, split}
 use Rattle.notices.proofs.Laws.{overlap-free}
 use Rattle.bounds.specs.Telling.{putAll}
 use Rattle.bounds.proofs.Chain.{Short}
-use Rattle.bounds.proofs.Ranges.{Under, named-under, named-link}
+use Rattle.bounds.proofs.Ranges.{named-under, named-link}
 use Rattle.bounds.proofs.Adding.{put-both}
 use Rattle.bounds.proofs.Once.{Once, once-none, once-in, once-both}
 use Rattle.bounds.proofs.Family.{Below, self, below-parent, not-above, apart}
@@ -99,6 +97,7 @@ module _ (M : List ℕ) (object offset len op : ℕ) where
       free : (b : Bool) {n : ℕ} → length (pick b (listed Nothing) []) ≤ n
       free true = omega arith
       free false = omega arith
+
       most-one : (b : Bool) (d : Due) → length (pick b (listed d) []) ≤ 1
       most-one true (Tell n) = omega arith
       most-one true Nothing = omega arith

@@ -1,5 +1,5 @@
 -- Page lookup for reading takes no frame and tells nothing; in a sound pool it always answers. Assumes nothing.
-use mathlib.Core.Path.{_≡_, refl, sym, ap, _∙_}
+use mathlib.Core.Path.{_≡_, refl, sym, _∙_}
 use mathlib.Core.Bool.{Bool, true, false}
 use mathlib.Core.Logic.{⊎-elim}
 use mathlib.Core.List.{List}
@@ -13,16 +13,16 @@ use Rattle.entry.specs.declared.Slot.{Slot}
 use Rattle.entry.specs.declared.Slot.the-variants.{Empty, Held}
 use Rattle.entry.specs.Entry.{splitOf}
 use Rattle.node.specs.declared.Node.{Node}
-use Rattle.node.specs.Node.{hiddenOf, leafOf, windowOf, outOf, sideOf}
+use Rattle.node.specs.Node.{hiddenOf, leafOf, windowOf, sideOf}
 use Rattle.tables.specs.Pool.{Pool}
 use Rattle.tables.specs.Tables.{nodeOf, slotAt}
 use Rattle.sound.specs.Facts.{Leaf, Sound}
 use Rattle.lookup.specs.declared.Looked.{Looked}
 use Rattle.lookup.specs.declared.Looked.the-variants.{Shared, Zero, Own, New, NoMemory, Stopped}
 use Rattle.lookup.specs.Work.{Work, Looking, lookingOf}
-use Rattle.lookup.specs.Lookup.{asksOf, kept, fresh, otherTold, shareOr, hiddenStep, leafTold, settleBy, settle, handedBy, handed, holdsOf, enter, look, other, withTold}
+use Rattle.lookup.specs.Lookup.{asksOf, kept, fresh, otherTold, shareOr, hiddenStep, leafTold, settleBy, settle, handedBy, holdsOf, enter, look, other}
 use Rattle.logic.proofs.Means.{equal, split, either}
-use Rattle.soundness.proofs.Ancestors.{above, above-none, above-add}
+use Rattle.soundness.proofs.Ancestors.{above}
 use Rattle.bounds.specs.Reading.{Reads, Quiet, Answers}
 use Rattle.bounds.specs.Reading.Answers.{frame, zeros}
 use Rattle.bounds.proofs.Chain.{Short, sound-short, above-next, ends-by-65}

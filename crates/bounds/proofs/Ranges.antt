@@ -2,13 +2,11 @@
 use mathlib.Core.Path.{_≡_, refl, sym, ap, _∙_}
 use mathlib.Core.Bool.{Bool, true, false}
 use mathlib.Core.List.{List}
-use Prim.Native.Nat.{ℕ, zero, suc, _+_, _-_, _≤_, _<_}
+use Prim.Native.Nat.{ℕ, zero, suc, _+_, _-_}
 use native.Mathlib.Omega.{arith}
-use lib.Dec.{eqb, ltb}
-use lib.ListN.{getD}
+use lib.Dec.{ltb}
 use borrow.Author.Tests.{eqb-true, ne-eqb}
 use Rattle.logic.specs.Pick.{pick}
-use Rattle.node.specs.declared.Node.{Node}
 use Rattle.node.specs.Node.{hiddenOf}
 use Rattle.tables.specs.Pool.{Pool}
 use Rattle.tables.specs.Tables.{nodeOf}
@@ -48,6 +46,7 @@ module _ {N : List ℕ} (s : Short N) {next : ℕ} (tree : Tree N next) (M : Lis
     where
       two : (m : ℕ) (a e : ℕ) (told : Told) → Told
       two m a e told = rangeChange m N M (childOf (nodeOf N node .right)) a e op (rangeChange m N M (childOf (nodeOf N node .left)) a e op told)
+
       by : (a e : ℕ) (told : Told) (b : Bool) → hiddenOf (nodeOf N node) ≡ b → pick b (two k a e told) told ≡ pick b (two (k + j) a e told) told
       by a e told true t =
           let h = eqb-true _ _ t in

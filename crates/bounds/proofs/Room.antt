@@ -1,5 +1,5 @@
 -- No notice is lost: a lookup sends at most one for each live mapping, and a list with room for these takes them all. Assumes nothing.
-use mathlib.Core.Path.{_≡_, sym, ap, _∙_}
+use mathlib.Core.Path.{_≡_}
 use mathlib.Core.Bool.{Bool}
 use mathlib.Core.List.{List}
 use Prim.Native.Nat.{ℕ, suc, _+_, _*_, _/_, _≤_}

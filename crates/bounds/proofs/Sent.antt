@@ -2,8 +2,7 @@
 use mathlib.Core.Path.{_≡_, refl, sym, ap, _∙_}
 use mathlib.Core.Bool.{Bool, true, false, _&&_}
 use mathlib.Core.List.{List, [], _++_}
-use Prim.Native.Nat.{ℕ, zero, suc, _+_, _-_}
-use native.Mathlib.Omega.{arith}
+use Prim.Native.Nat.{ℕ, _+_}
 use lib.ListN.{length, length-append}
 use Rattle.logic.specs.Pick.{pick}
 use Rattle.logic.specs.declared.Found.{Found}
@@ -13,7 +12,6 @@ use Rattle.entry.specs.declared.PageStateTag.{PageStateTag}
 use Rattle.entry.specs.declared.Slot.{Slot}
 use Rattle.entry.specs.declared.Slot.the-variants.{Empty, Held}
 use Rattle.entry.specs.Entry.{splitOf, newState}
-use Rattle.node.specs.declared.Node.{Node}
 use Rattle.node.specs.Node.{hiddenOf, windowOf, outOf, sideOf}
 use Rattle.tables.specs.Tables.{nodeOf, slotAt, withState}
 use Rattle.frames.specs.Frames.{freeFrameIn}
@@ -21,12 +19,12 @@ use Rattle.notices.specs.declared.Notice.{Notice}
 use Rattle.notices.specs.Notices.{Told, rangeChange}
 use Rattle.lookup.specs.declared.Looked.{Looked}
 use Rattle.lookup.specs.declared.Looked.the-variants.{Shared, Zero, Own, New, NoMemory, Stopped}
-use Rattle.lookup.specs.Work.{Work, workOf, Looking, lookingOf}
+use Rattle.lookup.specs.Work.{workOf, Looking, lookingOf}
 use Rattle.lookup.specs.Lookup.{asksOf, cleared, freshBy, fresh, partBy, part, other, otherTold, shareOr, hiddenStep, leafTold, settleBy, settle, handedBy, handed, holdsOf, enter}
 use Rattle.bounds.specs.Telling.{putAll}
 use Rattle.bounds.proofs.Adding.{put-both}
 use Rattle.bounds.proofs.Once.{Once, once-none, once-in, once-both}
-use Rattle.bounds.proofs.Heard.{Heard, heard-none, heard-in, heard-pick, object-heard}
+use Rattle.bounds.proofs.Heard.{Heard, heard-none, heard-pick, object-heard}
 
 -- a lookup that does the same and sends the same notices whatever the list, at most one for each live mapping, of objects that P holds of
 pub record Sent (M : List ℕ) (P : ℕ → Type 0) (step : Told → Looking) : Type 0 where

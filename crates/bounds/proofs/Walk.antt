@@ -1,33 +1,25 @@
 -- On the way up the parent chain each step tells leaves that no step below tells. Assumes nothing.
-use mathlib.Core.Path.{_≡_, refl, sym, ap, _∙_}
-use mathlib.Core.Bool.{Bool, true, false}
+use mathlib.Core.Path.{_≡_}
+use mathlib.Core.Bool.{Bool, false}
 use mathlib.Core.List.{List}
-use mathlib.Core.Logic.{_⊎_, inl, inr, ⊎-elim}
-use Prim.Native.Nat.{ℕ, zero, suc, _+_, _-_, _/_, _≤_}
+use mathlib.Core.Logic.{⊎-elim}
+use Prim.Native.Nat.{ℕ, zero, suc, _+_}
 use native.Mathlib.Omega.{arith}
-use lib.ListN.{length}
 use borrow.Author.Tests.{eq-eqb, ne-eqb}
 use Rattle.node.specs.declared.Node.{Node}
-use Rattle.node.specs.declared.Side.{Side}
 use Rattle.node.specs.Node.{hiddenOf, sideOf}
-use Rattle.tables.specs.Pool.{Pool}
 use Rattle.tables.specs.Tables.{nodeOf}
-use Rattle.notices.specs.Notices.{Told, tellObject, childOf, rangeChange}
-use Rattle.sound.specs.Facts.{Hidden, Leaf, ChildOf, Tree, Sound}
+use Rattle.notices.specs.Notices.{rangeChange}
+use Rattle.sound.specs.Facts.{Tree}
 use Rattle.lookup.specs.declared.Looked.the-variants.{Stopped}
-use Rattle.lookup.specs.Work.{Work, workOf, Looking, lookingOf}
-use Rattle.lookup.specs.Lookup.{other, withTold, enter, look}
-use Rattle.commit.specs.Noted.{liveCount}
+use Rattle.lookup.specs.Work.{workOf, lookingOf}
+use Rattle.lookup.specs.Lookup.{other, look}
 use Rattle.logic.proofs.Means.{equal, split}
-use Rattle.bounds.specs.Telling.{putAll, Tells, Sends, Added}
-use Rattle.bounds.proofs.Chain.{Short, sound-short}
+use Rattle.bounds.proofs.Chain.{Short}
 use Rattle.bounds.proofs.Enough.{alone}
 use Rattle.bounds.proofs.Ranges.{Under, named-under, named-link}
-use Rattle.bounds.proofs.Quiet.{leaf-seen}
-use Rattle.bounds.proofs.Adding.{all-added}
-use Rattle.bounds.proofs.Once.{once-few}
 use Rattle.bounds.proofs.Family.{Below, self, below-parent, apart}
-use Rattle.bounds.proofs.Heard.{Heard, heard-in, object-heard, range-heard}
+use Rattle.bounds.proofs.Heard.{Heard, heard-in, range-heard}
 use Rattle.bounds.proofs.Sent.{Sent, sent-none, sent-in, Settles, hidden-settles, leaf-settles, enter-sent}
 
 -- the other child
