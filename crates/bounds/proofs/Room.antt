@@ -12,37 +12,36 @@ use Rattle.sound.specs.Facts.{Leaf, Sound}
 use Rattle.lookup.specs.Work.{Work, Looking}
 use Rattle.lookup.specs.Lookup.{withTold, look}
 use Rattle.commit.specs.Noted.{liveCount}
-use Rattle.bounds.specs.Telling.{Tells, Sends, Added}
+use Rattle.bounds.specs.Telling.{Tells, Sends, Wrote, Added}
 use Rattle.bounds.proofs.Chain.{sound-short}
 use Rattle.bounds.proofs.Quiet.{leaf-seen}
-use Rattle.bounds.proofs.Adding.{all-added, all-most}
+use Rattle.bounds.proofs.Adding.{wrote-in, all-wrote, all-added}
 use Rattle.bounds.proofs.Once.{once-few}
 use Rattle.bounds.proofs.Heard.{Heard, object-heard, range-heard}
 use Rattle.bounds.proofs.Walk.{leaf-sent}
 
--- what is sent is added, where there is room for the most that may be sent
+-- what is sent is written, and all of it where there is room for the most that may be sent
 
 module _ {step : Told → Told} {most : ℕ} (s : Tells step most) (t : Told) where
+  pub told-wrote : Wrote t most (step t)
+  told-wrote = let f = s .few in rw (s .same t) (wrote-in f (all-wrote (s .notices) t))
+
   pub told-added : t .count + most ≤ length (t .list) / 4 → Added t (s .notices) (step t)
   told-added room = let f = s .few in rw (s .same t) (all-added (s .notices) t (omega arith))
 
-  pub told-most : step t .count ≤ t .count + most
-  told-most = let f = s .few in let m = all-most (s .notices) t in rw (s .same t) (omega arith)
-
 module _ {step : Told → Looking} {most : ℕ} (s : Sends step most) (t : Told) where
+  pub sent-wrote : Wrote t most (step t .work .told)
+  sent-wrote = let f = s .few in rw (s .same t) (wrote-in f (all-wrote (s .notices) t))
+
   pub sent-added : t .count + most ≤ length (t .list) / 4 → Added t (s .notices) (step t .work .told)
   sent-added room = let f = s .few in rw (s .same t) (all-added (s .notices) t (omega arith))
 
-  pub sent-most : step t .work .told .count ≤ t .count + most
-  sent-most = let f = s .few in let m = all-most (s .notices) t in rw (s .same t) (omega arith)
-
-  -- room for k steps more is left
-  pub room-left : (k : ℕ) → t .count + suc k * most ≤ length (t .list) / 4 → step t .work .told .count + k * most ≤ length (step t .work .told .list) / 4
-  room-left k room =
-      let e : suc k * most ≡ most + k * most = omega arith in
-      let r = sent-added (omega arith) .room in
-      let m = sent-most in
-      rw r (omega arith)
+-- room for k steps more is left
+pub room-left : {t t′ : Told} (most k : ℕ) → Wrote t most t′ → t .count + suc k * most ≤ length (t .list) / 4 → t′ .count + k * most ≤ length (t′ .list) / 4
+room-left most k w room =
+    let e : suc k * most ≡ most + k * most = omega arith in
+    let f = w .few in
+    rw (w .room) (omega arith)
 
 -- the steps
 
@@ -72,5 +71,9 @@ room-enough L p sound M w l i write leaf =
       same = s .same;
     }
 
+-- with room for one notice for each live mapping, each that is due stands in the list; and without it nothing is written past the count
 pub none-lost : (L : ℕ) (p : Pool) (sound : Sound L p) (M : List ℕ) (w : Work) (l i : ℕ) (write : Bool) (leaf : Leaf (p .nodes) l) → w .told .count + liveCount M ≤ length (w .told .list) / 4 → Added (w .told) (room-enough L p sound M w l i write leaf .notices) (look L 64 (p .nodes) M w l i write l .work .told)
-none-lost L p sound M w l i write leaf room = sent-added (room-enough L p sound M w l i write leaf) (w .told) room
+none-lost L p sound M w l i write leaf = sent-added (room-enough L p sound M w l i write leaf) (w .told)
+
+pub look-wrote : (L : ℕ) (p : Pool) → Sound L p → (M : List ℕ) (w : Work) (l i : ℕ) (write : Bool) → Leaf (p .nodes) l → Wrote (w .told) (liveCount M) (look L 64 (p .nodes) M w l i write l .work .told)
+look-wrote L p sound M w l i write leaf = sent-wrote (room-enough L p sound M w l i write leaf) (w .told)

@@ -33,10 +33,15 @@ pub record Sends (step : Told → Looking) (most : ℕ) : Type 0 where
 abbrev pub noticeIn : List ℕ → ℕ → Notice
 noticeIn l c = noticeBy (getD l (c * 4) 0) (getD l (c * 4 + 1) 0) (getD l (c * 4 + 2) 0) (getD l (c * 4 + 3) 0)
 
--- each of the notices stands in the list, in order, after those that stood there, which stay; nothing is written past them
-pub record Added (t : Told) (ns : List Notice) (t′ : Told) : Type 0 where
-  pub count : t′ .count ≡ t .count + length ns
-  pub there : (j : ℕ) → j < length ns → noticeIn (t′ .list) (t .count + j) ≡ getD ns j (noticeBy 0 0 0 0)
+-- at most so many notices more, after those that stood there; these stay, and nothing is written past the count
+pub record Wrote (t : Told) (most : ℕ) (t′ : Told) : Type 0 where
+  pub more : t .count ≤ t′ .count
+  pub few : t′ .count ≤ t .count + most
   pub before : (x : ℕ) → x < t .count * 4 → getD (t′ .list) x 0 ≡ getD (t .list) x 0
   pub past : (x : ℕ) → t′ .count * 4 ≤ x → getD (t′ .list) x 0 ≡ getD (t .list) x 0
   pub room : length (t′ .list) ≡ length (t .list)
+
+-- each of the notices stands in the list, in order, after those that stood there
+pub record Added (t : Told) (ns : List Notice) (t′ : Told) : Type 0 where
+  pub count : t′ .count ≡ t .count + length ns
+  pub there : (j : ℕ) → j < length ns → noticeIn (t′ .list) (t .count + j) ≡ getD ns j (noticeBy 0 0 0 0)
