@@ -9,3 +9,4 @@ pub mod Heard
 pub mod Sent
 pub mod Walk
 pub mod Room
+pub mod Commits

@@ -1,1 +1,1 @@
-// What a sound pool bounds: theorems over the definitions of `lookup` and `notices`. There is no code here.
+// What a sound pool bounds: theorems over the definitions of `lookup`, `notices` and `commit`. There is no code here.
