@@ -109,7 +109,7 @@ module _ (L : ℕ) (p : Pool) (n page : ℕ) where
                 (λ room. inr (rw (goes-on list e (has-room list room)) (sent-added s (toldOf list 0) (omega arith))))
                 (λ full.
                 let r = no-room list e (room-short list full) in
-                inl (ap (λ (s : Said). s .answer) r, ap (λ (s : Said). s .told) r));
+                inl (record { short = omega arith; answer = ap (λ (s : Said). s .answer) r; told = ap (λ (s : Said). s .told) r }));
           }
 
 -- commit_page

@@ -1,4 +1,4 @@
--- Neither page lookup nor a range change ends for want of steps: 64 do what any more do. Assumes nothing.
+-- Page lookup never ends for want of steps: 64 parents asked are as good as any more. Assumes nothing.
 use mathlib.Core.Path.{_≡_, refl, sym, ap, _∙_}
 use mathlib.Core.Bool.{Bool, false}
 use mathlib.Core.List.{List}
