@@ -1,0 +1,133 @@
+-- commit_page loses no notice, and for reading a page of a live object it is never refused. Assumes nothing.
+use mathlib.Core.Path.{_≡_, refl, ap, _∙_}
+use mathlib.Core.Bool.{Bool, true, false}
+use mathlib.Core.List.{List, []}
+use mathlib.Core.Logic.{inl, inr}
+use Prim.Native.Nat.{ℕ, _*_, _/_, _%_, _≤_, _<_}
+use native.Mathlib.Omega.{arith}
+use lib.Dec.{leb, ltb}
+use lib.ListN.{length}
+use borrow.Author.Tests.{lt-leb, le-leb}
+use Rattle.logic.specs.Pick.{pick}
+use Rattle.logic.specs.declared.Found.{Found}
+use Rattle.logic.specs.declared.Found.the-variants.{At, Nothing}
+use Rattle.node.specs.Node.{leafOf}
+use Rattle.tables.specs.Pool.{Pool}
+use Rattle.tables.specs.Tables.{nodeOf}
+use Rattle.notices.specs.Notices.{Told, toldOf}
+use Rattle.sound.specs.Sound.{sound}
+use Rattle.sound.specs.Facts.{Leaf, Sound}
+use Rattle.lookup.specs.declared.Looked.{Looked}
+use Rattle.lookup.specs.Work.{Work, workOf, Looking}
+use Rattle.lookup.specs.Lookup.{look}
+use Rattle.pool.specs.declared.answer.Answer.the-variants.{Refused}
+use Rattle.pool.specs.declared.answer.Refusal.the-variants.{NoRoom, BadPool}
+use Rattle.pool.specs.Calls.{findObject, atNode, onNode}
+use Rattle.commit.specs.Noted.{Said, notedOf, refusedOf, liveCount, roomOf}
+use Rattle.commit.specs.Commit.{lookedAnswer, pageRefusal, committed, commitAt, commitPage}
+use Rattle.logic.proofs.Means.{most, split}
+use Rattle.soundness.proofs.Soundness.{sound-facts}
+use Rattle.bounds.specs.Reading.{Answers}
+use Rattle.bounds.specs.Reading.Answers.{frame, zeros}
+use Rattle.bounds.specs.Telling.{Added}
+use Rattle.bounds.specs.Calling.{LosesNone, Given}
+use Rattle.bounds.proofs.Quiet.{read-quiet, read-answers}
+use Rattle.bounds.proofs.Room.{room-enough, sent-added}
+
+-- an object that is found is a leaf
+
+found-leaf : (N : List ℕ) (object n : ℕ) → findObject N object ≡ At n → Leaf N n
+unfolding findObject
+found-leaf N object n = by (ltb object 64) (leafOf (nodeOf N object)) refl
+  where
+    by : (a b : Bool) → leafOf (nodeOf N object) ≡ b → pick a (pick b (At object) Nothing) Nothing ≡ At n → Leaf N n
+    by true true e h = let q : object ≡ n = cc in rw (← q) e
+    by true false e h = let z : _≡_ {A = ℕ} 0 1 = cc in absurd (omega arith)
+    by false b e h = let z : _≡_ {A = ℕ} 0 1 = cc in absurd (omega arith)
+
+-- what lookup answers is given
+
+given : {r : Looked} → Answers r → Given (lookedAnswer r)
+given (frame f e) = rw e (record { value = f; is = refl })
+given (zeros e) = rw e (record { value = 4294967295; is = refl })
+
+-- a call that sends nothing
+
+added-none : (t t′ : Told) → t′ ≡ t → Added t [] t′
+added-none t t′ e = rw e (record { count = omega arith; there = λ j l. absurd (omega arith) })
+
+silent : {call : List ℕ → Said} (most : ℕ) → ((list : List ℕ) → call list .told ≡ toldOf list 0) → LosesNone call most
+silent most e = record { notices = []; few = omega arith; all = λ list. inr (added-none _ _ (e list)) }
+
+-- the ways through commit_page on an object's node
+
+module _ (L : ℕ) (p : Pool) (n page : ℕ) where
+  abbrev started : List ℕ → Work
+  started list = workOf (p .pages) (p .used) (p .memory) (toldOf list 0)
+
+  abbrev looks : List ℕ → Bool → Looking
+  looks list write = look L 64 (p .nodes) (p .mappings) (started list) n (page % 4294967296) write n
+
+  page-out : (list : List ℕ) (write : Bool) → leb (nodeOf (p .nodes) n .size) page ≡ true → commitAt L p list n page write .told ≡ toldOf list 0
+  unfolding commitAt pageRefusal
+  page-out list write e = rw e
+
+  no-room : (list : List ℕ) → leb (nodeOf (p .nodes) n .size) page ≡ false → roomOf (p .mappings) list 1 ≡ false → commitAt L p list n page true ≡ notedOf (Refused NoRoom) p (toldOf list 0)
+  unfolding commitAt pageRefusal
+  no-room list e r = rw (e, r)
+
+  goes-on : (list : List ℕ) → leb (nodeOf (p .nodes) n .size) page ≡ false → roomOf (p .mappings) list 1 ≡ true → commitAt L p list n page true ≡ committed p (looks list true)
+  unfolding commitAt pageRefusal
+  goes-on list e r = rw (e, r)
+
+  reads : (list : List ℕ) → leb (nodeOf (p .nodes) n .size) page ≡ false → commitAt L p list n page false ≡ committed p (looks list false)
+  unfolding commitAt pageRefusal
+  reads list e = rw e
+
+  has-room : (list : List ℕ) → liveCount (p .mappings) ≤ length list / 4 → roomOf (p .mappings) list 1 ≡ true
+  unfolding roomOf
+  has-room list h = le-leb (1 * liveCount (p .mappings)) (length list / 4) (omega arith)
+
+  room-short : (list : List ℕ) → (liveCount (p .mappings) ≤ length list / 4 → ⊥) → roomOf (p .mappings) list 1 ≡ false
+  unfolding roomOf
+  room-short list h = lt-leb (1 * liveCount (p .mappings)) (length list / 4) (omega arith)
+
+  node-loses : Sound L p → Leaf (p .nodes) n → (write : Bool) → LosesNone (λ list. commitAt L p list n page write) (liveCount (p .mappings))
+  node-loses sound leaf = by (leb (nodeOf (p .nodes) n .size) page) refl
+    where
+      by : (b : Bool) → leb (nodeOf (p .nodes) n .size) page ≡ b → (write : Bool) → LosesNone (λ list. commitAt L p list n page write) (liveCount (p .mappings))
+      by true e write = silent _ (λ list. page-out list write e)
+      by false e false =
+          silent _ (λ list. ap (λ (s : Said). s .told) (reads list e) ∙ read-quiet L 64 (p .nodes) (p .mappings) (started list) n (page % 4294967296) n .told)
+      by false e true =
+          let s = room-enough L p sound (p .mappings) (started []) n (page % 4294967296) true leaf in
+          record {
+            notices = s .notices;
+            few = s .few;
+            all = λ list.
+                split (most (liveCount (p .mappings)) (length list / 4))
+                (λ room. inr (rw (goes-on list e (has-room list room)) (sent-added s (toldOf list 0) (omega arith))))
+                (λ full.
+                let r = no-room list e (room-short list full) in
+                inl (record { short = omega arith; answer = ap (λ (s : Said). s .answer) r; told = ap (λ (s : Said). s .told) r }));
+          }
+
+-- commit_page
+
+module _ (L : ℕ) (p : Pool) (object page : ℕ) where
+  pub commit-loses-none : (write : Bool) → LosesNone (λ list. commitPage L p list object page write) (liveCount (p .mappings))
+  unfolding onNode atNode
+  commit-loses-none write = by (sound L p) refl (findObject (p .nodes) object) refl
+    where
+      by : (s : Bool) → sound L p ≡ s → (f : Found) → findObject (p .nodes) object ≡ f → LosesNone (λ list. pick s (atNode (refusedOf p list) (λ n. commitAt L p list n page write) f) (notedOf (Refused BadPool) p (toldOf list 0))) (liveCount (p .mappings))
+      by false e f h = silent _ (λ list. refl)
+      by true e Nothing h = silent _ (λ list. refl)
+      by true e (At n) h = node-loses L p n page (sound-facts L p e) (found-leaf (p .nodes) object n h) write
+
+  -- every page of every object of a sound pool can be read
+  pub commit-reads : (list : List ℕ) (n : ℕ) → sound L p ≡ true → findObject (p .nodes) object ≡ At n → page < nodeOf (p .nodes) n .size → Given (commitPage L p list object page false .answer)
+  unfolding onNode atNode
+  commit-reads list n e h l =
+      rw (e, h)
+      (rw (reads L p n page list (lt-leb _ _ l))
+      (given (read-answers L p (sound-facts L p e) (p .mappings) (started L p n page list) n (page % 4294967296) n (found-leaf (p .nodes) object n h))))

@@ -1,0 +1,12 @@
+pub mod Chain
+pub mod Enough
+pub mod Ranges
+pub mod Quiet
+pub mod Adding
+pub mod Once
+pub mod Family
+pub mod Heard
+pub mod Sent
+pub mod Walk
+pub mod Room
+pub mod Commits

@@ -1,0 +1,30 @@
+-- What a call that sends notices does for every list.
+use mathlib.Core.Path.{_≡_}
+use mathlib.Core.List.{List}
+use mathlib.Core.Logic.{_⊎_}
+use Prim.Native.Nat.{ℕ, _/_, _≤_, _<_}
+use lib.ListN.{length}
+use Rattle.notices.specs.declared.Notice.{Notice}
+use Rattle.notices.specs.Notices.{toldOf}
+use Rattle.pool.specs.declared.answer.Answer.{Answer}
+use Rattle.pool.specs.declared.answer.Answer.the-variants.{Done, Refused}
+use Rattle.pool.specs.declared.answer.Refusal.the-variants.{NoRoom}
+use Rattle.commit.specs.Noted.{Said}
+use Rattle.bounds.specs.Telling.{Added}
+
+-- a list with too little room for so many notices, left alone by the refusal
+pub record NoRoomFor (most : ℕ) (list : List ℕ) (s : Said) : Type 0 where
+  pub short : length list / 4 < most
+  pub answer : s .answer ≡ Refused NoRoom
+  pub told : s .told ≡ toldOf list 0
+
+-- the notices are named before the list is: it takes all of them, or it is too short and the call is refused
+pub record LosesNone (call : List ℕ → Said) (most : ℕ) : Type 0 where
+  pub notices : List Notice
+  pub few : length notices ≤ most
+  pub all : (list : List ℕ) → NoRoomFor most list (call list) ⊎ Added (toldOf list 0) notices (call list .told)
+
+-- the call isn't refused
+pub record Given (a : Answer) : Type 0 where
+  pub value : ℕ
+  pub is : a ≡ Done value

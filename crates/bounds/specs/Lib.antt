@@ -1,0 +1,3 @@
+pub mod Reading
+pub mod Telling
+pub mod Calling

@@ -1,0 +1,28 @@
+-- What page lookup for reading may answer and change.
+use mathlib.Core.Path.{_≡_}
+use mathlib.Core.Bool.{false}
+use Prim.Native.Nat.{ℕ}
+use Rattle.lookup.specs.declared.Looked.{Looked}
+use Rattle.lookup.specs.declared.Looked.the-variants.{Shared, Zero, Own, New, NoMemory, Stopped}
+use Rattle.lookup.specs.Work.{Work, Looking}
+
+-- no frame is asked for and none is handed down of which mappings are to be told; it stops only if S
+abbrev pub Reads : Type 0 → Looked → Type 0
+Reads S (Shared f) = Unit
+Reads S Zero = Unit
+Reads S (Own f u) = u ≡ false
+Reads S (New f) = ⊥
+Reads S NoMemory = ⊥
+Reads S Stopped = S
+
+-- only page entries may change
+pub record Quiet (S : Type 0) (w : Work) (l : Looking) : Type 0 where
+  pub answer : Reads S (l .answer)
+  pub used : l .work .used ≡ w .used
+  pub memory : l .work .memory ≡ w .memory
+  pub told : l .work .told ≡ w .told
+
+-- a frame or the zero frame
+pub data Answers (r : Looked) : Type 0 where
+  frame : (f : ℕ) → r ≡ Shared f → Answers r
+  zeros : r ≡ Zero → Answers r
