@@ -1,0 +1,32 @@
+use native.Mathlib.Omega.{arith}
+use Rattle.ranges.proofs.PageLaws.{commit-stops, commit-on}
+use borrow.Author.Needs.{needs}
+use Rattle.ranges.proofs.pages.commit_page.Statement.{statement}
+use Rattle.ranges.proofs.pages.commit_page.Tie as tie
+
+returns : tie.Need-returns
+returns c = (commit-stops _ _ _ _ _ (c .before .before .before .before .before .before .before .before .before .before .before .before .find-page .ensures) (c .before .before .before .against-write .ensures) (c .before .why .given .1), omega arith)
+
+returns-2 : tie.Need-returns-2
+returns-2 c = (commit-on _ _ _ _ _ (c .before .before .before .before .before .before .before .before .before .before .before .find-page .ensures) (c .before .before .against-write .ensures) (c .enum-told .given .1), omega arith)
+
+pub commit-page-spec : {M : Type 1} → statement M
+commit-page-spec =
+    tie.close
+    (tie.spec
+    (λ c. search needs)
+    (λ c κs. search needs)
+    (λ c κs. search needs)
+    (λ c. search needs)
+    (λ c. search needs)
+    (λ c. search needs)
+    (λ c. search needs)
+    (λ c. search needs)
+    returns
+    (λ c. search needs)
+    (λ c. search needs)
+    (λ c. search needs)
+    (λ c. search needs)
+    (λ c. search needs)
+    (λ c. search needs)
+    returns-2)

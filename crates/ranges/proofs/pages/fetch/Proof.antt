@@ -1,0 +1,53 @@
+use Rattle.ranges.specs.Pages.{fetchedBy}
+use Rattle.ranges.proofs.PageLaws.{fetched-all, fetched-zero}
+use borrow.Author.Needs.{needs}
+use Rattle.ranges.proofs.pages.fetch.Statement.{statement}
+use Rattle.ranges.proofs.pages.fetch.Tie as tie
+
+returns : tie.Need-returns
+returns c = fetched-all _ _ _ _ (c .before .before .before .before .before .before .looked .given .1) (c .before .before .before .len .ensures) (c .before .before .paste .ensures)
+
+returns-2 : tie.Need-returns-2
+returns-2 c = fetched-zero _ _ _ _ (c .before .before .before .before .before .enum-told .given .1) (c .before .before .before .len2 .ensures) (c .before .before .blank .ensures)
+
+returns-3 : tie.Need-returns-3
+unfolding fetchedBy
+returns-3 c = rw (c .enum-told2 .given .1)
+
+returns-4 : tie.Need-returns-4
+unfolding fetchedBy
+returns-4 c = rw (c .enum-told3 .given .1)
+
+returns-5 : tie.Need-returns-5
+unfolding fetchedBy
+returns-5 c = rw (c .enum-told4 .given .1)
+
+returns-6 : tie.Need-returns-6
+unfolding fetchedBy
+returns-6 c = rw (c .enum-told5 .given .1)
+
+pub fetch-spec : {M : Type 1} → statement M
+fetch-spec =
+    tie.close
+    (tie.spec
+    (λ c. search needs)
+    (λ c. search needs)
+    (λ c. search needs)
+    (λ c. search needs)
+    (λ c κs. search needs)
+    (λ c κs. search needs)
+    (λ c. search needs)
+    (λ c κs. search needs)
+    (λ c κs. search needs)
+    (λ c. search needs)
+    (λ c. search needs)
+    (λ c. search needs)
+    (λ c. search needs)
+    (λ c. search needs)
+    returns
+    (λ c. search needs)
+    returns-2
+    returns-3
+    returns-4
+    returns-5
+    returns-6)

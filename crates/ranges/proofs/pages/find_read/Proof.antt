@@ -1,0 +1,18 @@
+use Rattle.ranges.proofs.PageLaws.{look-quiet}
+use borrow.Author.Needs.{needs}
+use Rattle.ranges.proofs.pages.find_read.Statement.{statement}
+use Rattle.ranges.proofs.pages.find_read.Tie as tie
+
+returns : tie.Need-returns
+returns c = look-quiet _ _ _ _ _ _ _ (c .before .before .before .before .before .before .before .find-page .ensures)
+
+pub find-read-spec : {M : Type 1} → statement M
+find-read-spec =
+    tie.close
+    (tie.spec
+    (λ c. search needs)
+    (λ c κs. search needs)
+    (λ c. search needs)
+    (λ c. search needs)
+    (λ c. search needs)
+    returns)

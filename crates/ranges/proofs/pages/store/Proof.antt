@@ -1,0 +1,52 @@
+use mathlib.Core.Path.{refl}
+use Rattle.ranges.specs.Pages.{storedBy}
+use Rattle.ranges.proofs.PageLaws.{stored-all}
+use borrow.Author.Needs.{needs}
+use Rattle.ranges.proofs.pages.store.Statement.{statement}
+use Rattle.ranges.proofs.pages.store.Tie as tie
+
+returns : tie.Need-returns
+returns c = λ P U t. stored-all _ _ _ _ P U t (c .before .before .before .before .before .before .looked .given .1) (c .before .before .before .len .ensures) (c .before .before .paste .ensures)
+
+returns-2 : tie.Need-returns-2
+unfolding storedBy
+returns-2 c = λ P U t. rw (c .enum-told .given .1)
+
+returns-3 : tie.Need-returns-3
+unfolding storedBy
+returns-3 c = λ P U t. rw (c .enum-told2 .given .1)
+
+returns-4 : tie.Need-returns-4
+unfolding storedBy
+returns-4 c = λ P U t. rw (c .enum-told3 .given .1)
+
+returns-5 : tie.Need-returns-5
+unfolding storedBy
+returns-5 c = λ P U t. rw (c .enum-told4 .given .1)
+
+returns-6 : tie.Need-returns-6
+unfolding storedBy
+returns-6 c = λ P U t. rw (c .enum-told5 .given .1)
+
+pub store-spec : {M : Type 1} → statement M
+store-spec =
+    tie.close
+    (tie.spec
+    (λ c. search needs)
+    (λ c. search needs)
+    (λ c. search needs)
+    (λ c. search needs)
+    (λ c κs. search needs)
+    (λ c κs. search needs)
+    (λ c. search needs)
+    (λ c. search needs)
+    (λ c. search needs)
+    (λ c. search needs)
+    (λ c. search needs)
+    (λ c. search needs)
+    returns
+    returns-2
+    returns-3
+    returns-4
+    returns-5
+    returns-6)

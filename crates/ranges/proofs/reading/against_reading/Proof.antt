@@ -1,0 +1,19 @@
+use mathlib.Core.List.{[]}
+use borrow.Author.Tests.{not-true, not-false}
+use Rattle.ranges.proofs.Laws.{reading-state, reading-in, reading-out, other}
+use borrow.Author.Needs.{needs}
+use Rattle.ranges.proofs.reading.against_reading.Statement.{statement}
+use Rattle.ranges.proofs.reading.against_reading.Tie as tie
+
+returns : tie.Need-returns
+returns c = (reading-state _ [] [] _ _ _ (c .before .is-cached .ensures) (not-true _ (c .if1 .taken)), other)
+
+returns-2 : tie.Need-returns-2
+returns-2 c = (reading-in _ [] [] _ _ _ (c .before .before .before .is-cached .ensures) (not-false _ (c .before .before .if1 .left)) (c .before .is-inside .ensures .0) (c .if2 .taken), λ h. c .before .is-inside .ensures .1 (c .if2 .taken))
+
+returns-3 : tie.Need-returns-3
+returns-3 c = (reading-out _ [] [] _ _ _ (c .before .before .before .is-cached .ensures) (not-false _ (c .before .before .if1 .left)) (c .before .is-inside .ensures .0) (c .if2 .left), other)
+
+pub against-reading-spec : {M : Type 1} → statement M
+against-reading-spec =
+    tie.close (tie.spec (λ c κs. search needs) returns (λ c κs. search needs) returns-2 returns-3)

@@ -1,0 +1,62 @@
+use mathlib.Core.Path.{_≡_, refl, _∙_}
+use Prim.Native.Nat.{_≤_, _+_}
+use native.Mathlib.Omega.{arith}
+use lib.ListN.{length}
+use Rattle.ranges.specs.Each.{each}
+use Rattle.ranges.specs.Pages.{readOf, readPage}
+use Rattle.ranges.specs.Ranges.{readRange}
+use Rattle.ranges.proofs.Laws.{each-end, each-stop, each-next}
+use borrow.Author.Needs.{needs}
+use Rattle.ranges.proofs.reading.read_range.Statement.{statement}
+use Rattle.ranges.proofs.reading.read_range.Tie as tie
+
+abbrev Inv-loop : tie.InvT-loop
+Inv-loop nodes mappings pages₀ used₀ memory₀ node offset buf₀ it₀ left₀ pages used memory buf it left = (offset ≤ it .begin) × (it .end ≤ 17592186044416) × (length pages ≡ length pages₀) × (length used ≡ length used₀) × (length memory ≡ length memory₀) × (length buf ≡ length buf₀) × (each (readPage 4096 nodes mappings node offset) left it (readOf pages used memory buf) ≡ readRange 4096 nodes mappings node offset (readOf pages₀ used₀ memory₀ buf₀))
+
+abbrev μ-loop : tie.MeasureT-loop
+μ-loop nodes mappings pages₀ used₀ memory₀ node offset buf₀ it₀ left₀ pages used memory buf it left = left
+
+loop-holds : tie.Need-loop-holds Inv-loop μ-loop
+unfolding readRange
+loop-holds c = (omega arith, c .before .before .before .before .before .before .before .pre, refl, refl, refl, refl, rw (c .count .ensures))
+
+read-page-requires : tie.Need-read-page-requires Inv-loop μ-loop
+read-page-requires c κs = (c .before .before .before .before .before .loop .inv .0, c .before .before .before .before .before .loop .inv .1)
+
+returns : tie.Need-returns Inv-loop μ-loop
+returns c = each-stop (readPage 4096 _ _ _ _) (c .before .before .before .before .before .before .before .before .before .before .before .before .before .before .before .before .before .before .loop .it) _ (c .before .before .before .before .before .before .before .before .before .before .before .before .read-page .ensures .0) (c .before .before .before .before .before .before .before .before .before .before .before .before .before .before .before .before .before .before .loop .left) (omega (arith, c .before .before .before .before .before .before .before .before .before .before .before .before .before .before .before .before .before .loop-test .taken)) (c .before .why .given .1) ∙ c .before .before .before .before .before .before .before .before .before .before .before .before .before .before .before .before .before .before .loop .inv .6
+
+loop-less : tie.Need-loop-less Inv-loop μ-loop
+loop-less c = omega (arith, c .before .before .before .before .before .before .before .before .before .before .before .before .before .before .before .before .loop-test .taken)
+
+loop-again : tie.Need-loop-again Inv-loop μ-loop
+loop-again c = (c .before .before .before .before .before .before .before .before .before .before .before .read-page .ensures .1 .0, c .before .before .before .before .before .before .before .before .before .before .before .read-page .ensures .1 .1, search needs, search needs, search needs, search needs, each-next (readPage 4096 _ _ _ _) (c .before .before .before .before .before .before .before .before .before .before .before .before .before .before .before .before .before .loop .it) _ (c .before .before .before .before .before .before .before .before .before .before .before .read-page .ensures .0) (c .before .before .before .before .before .before .before .before .before .before .before .before .before .before .before .before .before .loop .left) _ (omega (arith, c .before .before .before .before .before .before .before .before .before .before .before .before .before .before .before .before .loop-test .taken)) (c .enum-told .given .1) ∙ c .before .before .before .before .before .before .before .before .before .before .before .before .before .before .before .before .before .loop .inv .6)
+
+returns-2 : tie.Need-returns-2 Inv-loop μ-loop
+returns-2 c = each-end (readPage 4096 _ _ _ _) (c .before .loop .it) _ (omega (arith, c .loop-test .left)) ∙ c .before .loop .inv .6
+
+pub read-range-spec : {M : Type 1} → statement M
+read-range-spec =
+    tie.close
+    (tie.spec
+    Inv-loop
+    μ-loop
+    (λ c. search needs)
+    (λ c κs. search needs)
+    loop-holds
+    (λ c. search needs)
+    read-page-requires
+    (λ c. search needs)
+    (λ c. search needs)
+    (λ c. search needs)
+    (λ c. search needs)
+    (λ c. search needs)
+    returns
+    (λ c. search needs)
+    loop-less
+    loop-again
+    (λ c. search needs)
+    (λ c. search needs)
+    (λ c. search needs)
+    (λ c. search needs)
+    returns-2)

@@ -1,0 +1,199 @@
+// Committing a range of pages (paged.rs 301).
+use crate::Ranged;
+use crate::pages;
+use crate::pages::CommitPart;
+use logic::Found;
+use pool::Against;
+use pool::Refusal;
+ghost use mathlib.Core.Path.{_≡_};
+ghost use mathlib.Core.List.{List};
+ghost use Prim.Native.Nat.{ℕ, _+_, _≤_, _<_};
+ghost use Rattle.tables.specs.Pool.{poolOf};
+ghost use Rattle.notices.specs.Notices.{toldOf};
+ghost use Rattle.lookup.specs.Work.{workOf};
+ghost use Rattle.pool.specs.declared.answer.Against.the-variants.{Nothing as Fine};
+ghost use Rattle.ranges.specs.Each.{partOf};
+ghost use Rattle.ranges.specs.Ranges.{rangingOf, againstCommitting, commitRange, commitThrough, commitAt, commit};
+
+fn against_committing(
+    nodes: &[u32],
+    mappings: &[u32],
+    notices: &[u32],
+    node: u32,
+    offset: u64,
+    len: u64,
+) -> Against
+    ensures { λ r. ⌜ r ≡ againstCommitting 4096 (now (nodes .entry)) (now (mappings .entry)) (now (notices .entry)) node offset len ⌝ }
+    ensures fits { λ r. ⌜ (r ≡ Fine → offset + len < 17592186044416) ⌝ }
+{
+    if !crate::is_inside(nodes, node, offset, len) {
+        return Against::Why(Refusal::OutOfRange);
+    }
+    if commit::has_room(mappings, notices, len / 4096) {
+        return Against::Nothing;
+    }
+    Against::Why(Refusal::NoRoom)
+}
+
+// Page by page, up to the first refusal.
+fn commit_range(
+    nodes: &[u32],
+    mappings: &[u32],
+    pages: &mut [u32],
+    used: &mut [u8],
+    memory: &mut [u8],
+    notices: &mut [u32],
+    node: u32,
+    first: u64,
+    total: u64,
+) -> CommitPart
+    requires { ⌜ first + total ≤ 4294967296 ⌝ }
+    ensures { λ r. ⌜
+        partOf (r .why) (r .rest) (workOf (now (pages .exit)) (now (used .exit)) (now (memory .exit)) (toldOf (now (notices .exit)) (r .count)))
+        ≡ commitRange 4096 (now (nodes .entry)) (now (mappings .entry)) node first total (workOf (now (pages .entry)) (now (used .entry)) (now (memory .entry)) (toldOf (now (notices .entry)) 0)) ⌝ }
+{
+    let mut page = first;
+    let mut left = total;
+    let mut count = 0;
+    while left > 0 {
+        left -= 1;
+        let part = pages::commit_page(
+            nodes,
+            mappings,
+            pages,
+            used,
+            memory,
+            notices,
+            count,
+            node,
+            page,
+        );
+        page = part.rest;
+        count = part.count;
+        let why = part.why;
+        match why {
+            Against::Why(r) => {
+                let why = Against::Why(r);
+                return CommitPart {
+                    why: why,
+                    rest: page,
+                    count: count,
+                };
+            }
+            Against::Nothing => {}
+        }
+    }
+    let why = Against::Nothing;
+    CommitPart {
+        why: why,
+        rest: page,
+        count: count,
+    }
+}
+
+fn commit_through(
+    nodes: &[u32],
+    pages: &mut [u32],
+    used: &mut [u8],
+    mappings: &[u32],
+    memory: &mut [u8],
+    notices: &mut [u32],
+    node: u32,
+    offset: u64,
+    len: u64,
+) -> Ranged
+    requires { ⌜ offset + len ≤ 17592186044416 ⌝ }
+    ensures { λ r. ⌜ ((head : List ℕ) →
+        rangingOf (r .answer) (poolOf (now (nodes .entry)) (now (pages .exit)) (now (used .exit)) (now (mappings .entry)) head (now (memory .exit))) (toldOf (now (notices .exit)) (r .count)) (r .done) (r .taken)
+        ≡ commitThrough 4096 (poolOf (now (nodes .entry)) (now (pages .entry)) (now (used .entry)) (now (mappings .entry)) head (now (memory .entry))) (now (notices .entry)) node offset len) ⌝ }
+{
+    let free = frames::free_count(used);
+    let part = commit_range(
+        nodes,
+        mappings,
+        pages,
+        used,
+        memory,
+        notices,
+        node,
+        offset / 4096,
+        len / 4096,
+    );
+    let why = part.why;
+    let answer = crate::answer_by(why, 0);
+    Ranged {
+        answer: answer,
+        done: 0,
+        taken: crate::fall(free, frames::free_count(used)),
+        count: part.count,
+    }
+}
+
+fn commit_at(
+    nodes: &[u32],
+    pages: &mut [u32],
+    used: &mut [u8],
+    mappings: &[u32],
+    memory: &mut [u8],
+    notices: &mut [u32],
+    node: u32,
+    offset: u64,
+    len: u64,
+) -> Ranged
+    ensures { λ r. ⌜ ((head : List ℕ) →
+        rangingOf (r .answer) (poolOf (now (nodes .entry)) (now (pages .exit)) (now (used .exit)) (now (mappings .entry)) head (now (memory .exit))) (toldOf (now (notices .exit)) (r .count)) (r .done) (r .taken)
+        ≡ commitAt 4096 (poolOf (now (nodes .entry)) (now (pages .entry)) (now (used .entry)) (now (mappings .entry)) head (now (memory .entry))) (now (notices .entry)) node offset len) ⌝ }
+{
+    let against = against_committing(nodes, mappings, notices, node, offset, len);
+    match against {
+        Against::Why(why) => return crate::refused(why),
+        Against::Nothing => return commit_through(
+            nodes,
+            pages,
+            used,
+            mappings,
+            memory,
+            notices,
+            node,
+            offset,
+            len,
+        ),
+    }
+}
+
+// A frame of its own for each page of an object's range.
+pub fn commit(
+    nodes: &[u32],
+    pages: &mut [u32],
+    used: &mut [u8],
+    mappings: &[u32],
+    head: &[u32],
+    memory: &mut [u8],
+    notices: &mut [u32],
+    object: u64,
+    offset: u64,
+    len: u64,
+) -> Ranged
+    ensures { λ r. ⌜
+        rangingOf (r .answer) (poolOf (now (nodes .entry)) (now (pages .exit)) (now (used .exit)) (now (mappings .entry)) (now (head .entry)) (now (memory .exit))) (toldOf (now (notices .exit)) (r .count)) (r .done) (r .taken)
+        ≡ commit 4096 (poolOf (now (nodes .entry)) (now (pages .entry)) (now (used .entry)) (now (mappings .entry)) (now (head .entry)) (now (memory .entry))) (now (notices .entry)) object offset len ⌝ }
+{
+    if sound::is_sound(nodes, pages, used, mappings, head, memory) {
+        let found = pool::find_object(nodes, object);
+        match found {
+            Found::At(node) => return commit_at(
+                nodes,
+                pages,
+                used,
+                mappings,
+                memory,
+                notices,
+                node,
+                offset,
+                len,
+            ),
+            Found::Nothing => return crate::refused(Refusal::NoObject),
+        }
+    }
+    crate::refused(Refusal::BadPool)
+}

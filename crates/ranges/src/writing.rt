@@ -1,0 +1,216 @@
+// Writing a range of bytes (paged.rs 235).
+use crate::Ranged;
+use crate::pages;
+use crate::pages::WritePart;
+use blocks::BlockIter;
+use logic::Found;
+use pool::Against;
+use pool::Refusal;
+ghost use mathlib.Core.Path.{_≡_};
+ghost use mathlib.Core.List.{List};
+ghost use Prim.Native.Nat.{ℕ, _+_, _≤_, _<_};
+ghost use lib.ListN.{length};
+ghost use Rattle.tables.specs.Pool.{poolOf};
+ghost use Rattle.notices.specs.Notices.{toldOf};
+ghost use Rattle.lookup.specs.Work.{workOf};
+ghost use Rattle.pool.specs.declared.answer.Against.the-variants.{Nothing as Fine};
+ghost use Rattle.ranges.specs.Each.{partOf};
+ghost use Rattle.ranges.specs.Ranges.{rangingOf, againstWriting, writeRange, writeThrough, writeAt, write};
+
+fn against_writing(
+    nodes: &[u32],
+    mappings: &[u32],
+    notices: &[u32],
+    node: u32,
+    offset: u64,
+    len: u64,
+) -> Against
+    ensures { λ r. ⌜ r ≡ againstWriting 4096 (now (nodes .entry)) (now (mappings .entry)) (now (notices .entry)) node offset len ⌝ }
+    ensures fits { λ r. ⌜ (r ≡ Fine → offset + len < 17592186044416) ⌝ }
+{
+    if !crate::is_cached(nodes, node) {
+        return Against::Why(Refusal::BadState);
+    }
+    if !crate::is_inside(nodes, node, offset, len) {
+        return Against::Why(Refusal::OutOfRange);
+    }
+    let range = BlockIter {
+        begin: offset,
+        end: offset + len,
+    };
+    if commit::has_room(mappings, notices, range.count()) {
+        return Against::Nothing;
+    }
+    Against::Why(Refusal::NoRoom)
+}
+
+// Page by page, up to the first refusal.
+fn write_range(
+    nodes: &[u32],
+    mappings: &[u32],
+    pages: &mut [u32],
+    used: &mut [u8],
+    memory: &mut [u8],
+    notices: &mut [u32],
+    node: u32,
+    offset: u64,
+    bytes: &[u8],
+) -> WritePart
+    requires { ⌜ offset + length (now bytes) ≤ 17592186044416 ⌝ }
+    ensures { λ r. ⌜
+        partOf (r .why) (r .rest) (workOf (now (pages .exit)) (now (used .exit)) (now (memory .exit)) (toldOf (now (notices .exit)) (r .count)))
+        ≡ writeRange 4096 (now (nodes .entry)) (now (mappings .entry)) node offset (now (bytes .entry)) (workOf (now (pages .entry)) (now (used .entry)) (now (memory .entry)) (toldOf (now (notices .entry)) 0)) ⌝ }
+    ensures fits { λ r. ⌜ offset ≤ r .rest .begin ⌝ }
+{
+    let mut it = BlockIter {
+        begin: offset,
+        end: offset + bytes.len() as u64,
+    };
+    let mut left = it.count();
+    let mut count = 0;
+    while left > 0 {
+        left -= 1;
+        let part = pages::write_page(
+            nodes,
+            mappings,
+            pages,
+            used,
+            memory,
+            notices,
+            count,
+            node,
+            offset,
+            bytes,
+            it,
+        );
+        it = part.rest;
+        count = part.count;
+        let why = part.why;
+        match why {
+            Against::Why(r) => {
+                let why = Against::Why(r);
+                return WritePart {
+                    why: why,
+                    rest: it,
+                    count: count,
+                };
+            }
+            Against::Nothing => {}
+        }
+    }
+    let why = Against::Nothing;
+    WritePart {
+        why: why,
+        rest: it,
+        count: count,
+    }
+}
+
+fn write_through(
+    nodes: &[u32],
+    pages: &mut [u32],
+    used: &mut [u8],
+    mappings: &[u32],
+    memory: &mut [u8],
+    notices: &mut [u32],
+    node: u32,
+    offset: u64,
+    bytes: &[u8],
+) -> Ranged
+    requires { ⌜ offset + length (now bytes) ≤ 17592186044416 ⌝ }
+    ensures { λ r. ⌜ ((head : List ℕ) →
+        rangingOf (r .answer) (poolOf (now (nodes .entry)) (now (pages .exit)) (now (used .exit)) (now (mappings .entry)) head (now (memory .exit))) (toldOf (now (notices .exit)) (r .count)) (r .done) (r .taken)
+        ≡ writeThrough 4096 (poolOf (now (nodes .entry)) (now (pages .entry)) (now (used .entry)) (now (mappings .entry)) head (now (memory .entry))) (now (notices .entry)) node offset (now (bytes .entry))) ⌝ }
+{
+    let free = frames::free_count(used);
+    let part = write_range(
+        nodes,
+        mappings,
+        pages,
+        used,
+        memory,
+        notices,
+        node,
+        offset,
+        bytes,
+    );
+    let rest = part.rest;
+    let done = rest.begin - offset;
+    let why = part.why;
+    let answer = crate::answer_by(why, done);
+    Ranged {
+        answer: answer,
+        done: done,
+        taken: crate::fall(free, frames::free_count(used)),
+        count: part.count,
+    }
+}
+
+fn write_at(
+    nodes: &[u32],
+    pages: &mut [u32],
+    used: &mut [u8],
+    mappings: &[u32],
+    memory: &mut [u8],
+    notices: &mut [u32],
+    node: u32,
+    offset: u64,
+    bytes: &[u8],
+) -> Ranged
+    ensures { λ r. ⌜ ((head : List ℕ) →
+        rangingOf (r .answer) (poolOf (now (nodes .entry)) (now (pages .exit)) (now (used .exit)) (now (mappings .entry)) head (now (memory .exit))) (toldOf (now (notices .exit)) (r .count)) (r .done) (r .taken)
+        ≡ writeAt 4096 (poolOf (now (nodes .entry)) (now (pages .entry)) (now (used .entry)) (now (mappings .entry)) head (now (memory .entry))) (now (notices .entry)) node offset (now (bytes .entry))) ⌝ }
+{
+    let against = against_writing(nodes, mappings, notices, node, offset, bytes.len() as u64);
+    match against {
+        Against::Why(why) => return crate::refused(why),
+        Against::Nothing => return write_through(
+            nodes,
+            pages,
+            used,
+            mappings,
+            memory,
+            notices,
+            node,
+            offset,
+            bytes,
+        ),
+    }
+}
+
+// Bytes into an object: those done, up to the first page that is refused.
+pub fn write(
+    nodes: &[u32],
+    pages: &mut [u32],
+    used: &mut [u8],
+    mappings: &[u32],
+    head: &[u32],
+    memory: &mut [u8],
+    notices: &mut [u32],
+    object: u64,
+    offset: u64,
+    bytes: &[u8],
+) -> Ranged
+    ensures { λ r. ⌜
+        rangingOf (r .answer) (poolOf (now (nodes .entry)) (now (pages .exit)) (now (used .exit)) (now (mappings .entry)) (now (head .entry)) (now (memory .exit))) (toldOf (now (notices .exit)) (r .count)) (r .done) (r .taken)
+        ≡ write 4096 (poolOf (now (nodes .entry)) (now (pages .entry)) (now (used .entry)) (now (mappings .entry)) (now (head .entry)) (now (memory .entry))) (now (notices .entry)) object offset (now (bytes .entry)) ⌝ }
+{
+    if sound::is_sound(nodes, pages, used, mappings, head, memory) {
+        let found = pool::find_object(nodes, object);
+        match found {
+            Found::At(node) => return write_at(
+                nodes,
+                pages,
+                used,
+                mappings,
+                memory,
+                notices,
+                node,
+                offset,
+                bytes,
+            ),
+            Found::Nothing => return crate::refused(Refusal::NoObject),
+        }
+    }
+    crate::refused(Refusal::BadPool)
+}
