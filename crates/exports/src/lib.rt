@@ -1,4 +1,10 @@
 // The calls for C and Rust: each answers document 01's number and puts the value behind a reference. The static library is made of this crate.
+mod bytes;
+
+pub use bytes::goramul_commit;
+pub use bytes::goramul_peek;
+pub use bytes::goramul_read;
+pub use bytes::goramul_write;
 ghost use mathlib.Core.Path.{_≡_};
 ghost use Rattle.tables.specs.Pool.{poolOf};
 ghost use Rattle.sound.specs.Sound.{sound};
