@@ -1,0 +1,1 @@
+// create_child: a child that shares its parent's pages.
