@@ -1,20 +1,19 @@
 -- create_child, 324 and 761, on a pool of pages of L bytes, refused ones too. Offset and length are bytes; the tables count pages.
-use Prim.Native.Nat.{ℕ, _+_, _-_, _*_, _/_, min}
-use mathlib.Core.Bool.{Bool, _&&_, not}
+use Prim.Native.Nat.{ℕ, _+_, _-_, _*_, _/_}
+use mathlib.Core.Bool.{_&&_}
 use mathlib.Core.List.{List}
 use lib.Dec.{eqb, leb}
 use lib.ListN.{getD, set}
 use Rattle.logic.specs.Pick.{pick}
-use Rattle.logic.specs.Below.{firstFrom, copied, zeroed}
 use Rattle.logic.specs.declared.Found.{Found}
 use Rattle.logic.specs.declared.Found.the-variants.{At, Nothing}
 use Rattle.blocks.specs.Blocks.{alignedOf}
 use Rattle.node.specs.declared.Node.{Node}
-use Rattle.node.specs.Node.{nodeBy}
+use Rattle.node.specs.Node.{snapshotNode, hiddenNode, belowNode, relinkedNode}
 use Rattle.tables.specs.Pool.{Pool, poolOf}
-use Rattle.tables.specs.Tables.{nodeOf, withNode, freeNodeIn, freeNodeFrom}
-use Rattle.notices.specs.Notices.{Told, toldOf, tellObject, childOf}
-use Rattle.pool.specs.declared.answer.Answer.the-variants.{Done, Refused}
+use Rattle.tables.specs.Tables.{nodeOf, withNode, rowMoved, freeNodeIn, freeNodeFrom}
+use Rattle.notices.specs.Notices.{toldOf, tellObject}
+use Rattle.pool.specs.declared.answer.Answer.the-variants.{Done}
 use Rattle.pool.specs.declared.answer.Refusal as R
 use Rattle.pool.specs.declared.answer.Against.{Against}
 use Rattle.pool.specs.declared.answer.Against.the-variants.{Why, Nothing as Fine}
@@ -22,34 +21,10 @@ use Rattle.pool.specs.Answers.{unless}
 use Rattle.pool.specs.Calls.{onNode}
 use Rattle.commit.specs.Noted.{Said, notedOf, refusedOf, roomOf}
 
--- the child: a snapshot of so many pages from `first` on, 780
-abbrev pub snapshotNode : ℕ → ℕ → ℕ → ℕ → ℕ → Node
-snapshotNode hidden first pages size owner = nodeBy 2 (hidden + 1) 0 0 first (min (first + pages) size) pages owner 0 0
-
--- the hidden node that takes the object's place, its pages and its window, 795
-abbrev pub hiddenNode : Node → ℕ → ℕ → Node
-hiddenNode n left right =
-    nodeBy 3 (n .parent) (left + 1) (right + 1) (n .«parent_offset») (n .«parent_limit») (n .size) (n .owner) 0 (n .«pin_count»)
-
--- the object below it, with a window over all of it, 825
-abbrev pub belowNode : Node → ℕ → Node
-belowNode n hidden =
-    nodeBy (n .kind) (hidden + 1) (n .left) (n .right) 0 (n .size) (n .size) (n .owner) (n .«cache_policy») (n .«pin_count»)
-
--- the parent's link to the old child becomes one to the new, 814
-abbrev pub relinkedNode : Node → ℕ → ℕ → Node
-relinkedNode n old new =
-    nodeBy (n .kind) (n .parent) (pick (eqb (n .left) (old + 1)) (new + 1) (n .left))
-    (pick (not (eqb (n .left) (old + 1)) && eqb (n .right) (old + 1)) (new + 1) (n .right)) (n .«parent_offset») (n .«parent_limit»)
-    (n .size) (n .owner) (n .«cache_policy») (n .«pin_count»)
-
+-- the same in the table, where there is a parent
 unfoldable pub relinked : List ℕ → ℕ → ℕ → ℕ → List ℕ
 relinked N parent old new =
     pick (eqb parent 0) N (withNode N (parent - 1) (relinkedNode (nodeOf N (parent - 1)) old new))
-
--- a node's row of entries goes to another node, 809
-unfoldable pub rowMoved : List ℕ → ℕ → ℕ → List ℕ
-rowMoved P from to = zeroed (copied P (to * 64) P (from * 64) 64) (from * 64) 64
 
 -- the nodes after the four records are written: child, hidden node, its parent, the object
 unfoldable pub bornNodes : List ℕ → ℕ → ℕ → ℕ → ℕ → ℕ → ℕ → List ℕ
