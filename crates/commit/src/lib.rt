@@ -135,7 +135,7 @@ fn commit_at(
     }
 }
 
-fn refused(why: Refusal) -> Noted
+pub fn refused(why: Refusal) -> Noted
     ensures { λ r. ⌜ r ≡ refusedBy why ⌝ }
 {
     let answer = Answer::Refused(why);

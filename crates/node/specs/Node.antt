@@ -1,6 +1,6 @@
 -- What a node's record says of itself (paged.rs 18 to 99 and 534 to 544).
-use Prim.Native.Nat.{ℕ, _+_}
-use mathlib.Core.Bool.{Bool, _&&_, _||_}
+use Prim.Native.Nat.{ℕ, _+_, min}
+use mathlib.Core.Bool.{Bool, _&&_, _||_, not}
 use lib.Dec.{eqb, leb, ltb}
 use Rattle.logic.specs.Pick.{pick}
 use Rattle.entry.specs.declared.PageStateTag.{PageStateTag}
@@ -58,3 +58,24 @@ unfoldable pub sideOf : Node → ℕ → Side
 sideOf n child =
     pick (hiddenOf n && eqb (n .left) (child + 1)) (sideBy LeftSplit (n .right))
     (pick (hiddenOf n && eqb (n .right) (child + 1)) (sideBy RightSplit (n .left)) (sideBy Owned 0))
+
+-- the child: a snapshot of so many pages from `first` on, 780
+abbrev pub snapshotNode : ℕ → ℕ → ℕ → ℕ → ℕ → Node
+snapshotNode hidden first pages size owner = nodeBy 2 (hidden + 1) 0 0 first (min (first + pages) size) pages owner 0 0
+
+-- the hidden node that takes the object's place, its pages and its window, 795
+abbrev pub hiddenNode : Node → ℕ → ℕ → Node
+hiddenNode n left right =
+    nodeBy 3 (n .parent) (left + 1) (right + 1) (n .«parent_offset») (n .«parent_limit») (n .size) (n .owner) 0 (n .«pin_count»)
+
+-- the object below it, with a window over all of it, 825
+abbrev pub belowNode : Node → ℕ → Node
+belowNode n hidden =
+    nodeBy (n .kind) (hidden + 1) (n .left) (n .right) 0 (n .size) (n .size) (n .owner) (n .«cache_policy») (n .«pin_count»)
+
+-- the parent's link to the old child becomes one to the new, 814
+abbrev pub relinkedNode : Node → ℕ → ℕ → Node
+relinkedNode n old new =
+    nodeBy (n .kind) (n .parent) (pick (eqb (n .left) (old + 1)) (new + 1) (n .left))
+    (pick (not (eqb (n .left) (old + 1)) && eqb (n .right) (old + 1)) (new + 1) (n .right)) (n .«parent_offset») (n .«parent_limit»)
+    (n .size) (n .owner) (n .«cache_policy») (n .«pin_count»)

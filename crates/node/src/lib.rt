@@ -1,7 +1,8 @@
 // A node's record (paged.rs 18 to 99), by value. Windows and size are counted in pages. A link is 0 for none, else a node's number + 1.
 use entry::PageStateTag;
 ghost use mathlib.Core.Path.{_≡_};
-ghost use Rattle.node.specs.Node.{freeNode, originNode, hiddenOf, leafOf, windowOf, outOf, sideOf};
+ghost use Prim.Native.Nat.{_+_, _<_, min};
+ghost use Rattle.node.specs.Node.{freeNode, originNode, hiddenOf, leafOf, windowOf, outOf, sideOf, snapshotNode, hiddenNode, belowNode, relinkedNode};
 
 pub struct Node {
     pub kind: u32,
@@ -20,6 +21,17 @@ pub struct Node {
 pub struct Side {
     pub tag: PageStateTag,
     pub other: u32,
+}
+
+// Where a window over so many pages from first on ends, no later than the size.
+fn window_end(first: u32, pages: u32, size: u32) -> u32
+    ensures { λ r. ⌜ r ≡ min (first + pages) size ⌝ }
+{
+    let end = first as u64 + pages as u64;
+    if size as u64 <= end {
+        return size;
+    }
+    end as u32
 }
 
 impl Node {
@@ -124,5 +136,64 @@ impl Node {
             tag: tag,
             other: Node::NONE,
         }
+    }
+
+    // create_child's child: so many pages of a node of that size, from first on, below the hidden node.
+    pub fn snapshot(hidden: u32, first: u32, pages: u32, size: u32, owner: u32) -> Self
+        requires { ⌜ hidden < 64 ⌝ }
+        ensures { λ r. ⌜ r ≡ snapshotNode hidden first pages size owner ⌝ }
+    {
+        Node {
+            kind: Node::SNAPSHOT,
+            parent: hidden + 1,
+            left: Node::NONE,
+            right: Node::NONE,
+            parent_offset: first,
+            parent_limit: window_end(first, pages, size),
+            size: pages,
+            owner: owner,
+            cache_policy: 0,
+            pin_count: 0,
+        }
+    }
+
+    // The hidden node that takes this one's place above two children.
+    pub fn hidden_above(mut self, left: u32, right: u32) -> Self
+        requires { ⌜ (left < 64) × (right < 64) ⌝ }
+        ensures { λ r. ⌜ r ≡ hiddenNode self left right ⌝ }
+    {
+        self.kind = Node::HIDDEN;
+        self.left = left + 1;
+        self.right = right + 1;
+        self.cache_policy = 0;
+        self
+    }
+
+    // This node below a hidden one, with a window over all of it.
+    pub fn below(mut self, hidden: u32) -> Self
+        requires { ⌜ hidden < 64 ⌝ }
+        ensures { λ r. ⌜ r ≡ belowNode self hidden ⌝ }
+    {
+        self.parent = hidden + 1;
+        self.parent_offset = 0;
+        self.parent_limit = self.size;
+        self
+    }
+
+    // The link to the old child becomes one to the new.
+    pub fn relinked(mut self, old: u32, new: u32) -> Self
+        requires { ⌜ (old < 64) × (new < 64) ⌝ }
+        ensures { λ r. ⌜ r ≡ relinkedNode self old new ⌝ }
+    {
+        let link = old + 1;
+        if self.left == link {
+            self.left = new + 1;
+            return self;
+        }
+        if self.right == link {
+            self.right = new + 1;
+            return self;
+        }
+        self
     }
 }

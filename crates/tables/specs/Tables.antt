@@ -5,7 +5,7 @@ use mathlib.Core.List.{List}
 use lib.Dec.{eqb, leb, ltb}
 use lib.ListN.{length, getD, set}
 use Rattle.logic.specs.Pick.{pick}
-use Rattle.logic.specs.Below.{firstFrom}
+use Rattle.logic.specs.Below.{firstFrom, copied, zeroed}
 use Rattle.logic.specs.declared.Found.{Found}
 use Rattle.entry.specs.declared.PageState.{PageState}
 use Rattle.entry.specs.declared.Slot.{Slot}
@@ -55,6 +55,10 @@ withState pages n i s = withEntry pages n i (entryWord s)
 
 unfoldable pub withoutState : List ℕ → ℕ → ℕ → List ℕ
 withoutState pages n i = withEntry pages n i 0
+
+-- a node's row of entries goes to another node, 809
+unfoldable pub rowMoved : List ℕ → ℕ → ℕ → List ℕ
+rowMoved P from to = zeroed (copied P (to * 64) P (from * 64) 64) (from * 64) 64
 
 abbrev pub mappingBy : ℕ → ℕ → ℕ → ℕ → Mapping
 mappingBy n o f p = record { number = n; object = o; first = f; pages = p }

@@ -4,9 +4,10 @@ use entry::Slot;
 use logic::Found;
 use node::Node;
 ghost use mathlib.Core.Path.{_≡_};
-ghost use Prim.Native.Nat.{_≤_};
+ghost use Prim.Native.Nat.{_*_, _≤_};
 ghost use lib.ListN.{getD, set};
-ghost use Rattle.tables.specs.Tables.{wordOf, withWord, withFive, nodeOf, withNode, entryOf, slotAt, withEntry, withState, withoutState, mappingOf, numberOf, freeNodeIn};
+ghost use Rattle.logic.specs.Below.{copied, zeroed};
+ghost use Rattle.tables.specs.Tables.{wordOf, withWord, withFive, nodeOf, withNode, entryOf, slotAt, withEntry, withState, withoutState, rowMoved, mappingOf, numberOf, freeNodeIn, freeNodeFrom};
 
 // A mapping in the order of appending: its number + 1 (0: none), its object, and the object's pages that it shows.
 pub struct Mapping {
@@ -138,6 +139,38 @@ pub fn clear_state(pages: &mut [u32], node: u32, page: u32)
     put_entry(pages, node, page, 0);
 }
 
+fn copy_row(pages: &mut [u32], from: u32, to: u32)
+    ensures { λ _. ⌜ now (pages .exit) ≡ copied (now (pages .entry)) (to * 64) (now (pages .entry)) (from * 64) 64 ⌝ }
+{
+    let a = to as usize * 64;
+    let b = from as usize * 64;
+    let mut k = 0;
+    while k < 64 {
+        let e = at(pages, b + k);
+        put(pages, a + k, e);
+        k += 1;
+    }
+}
+
+fn clear_row(pages: &mut [u32], node: u32)
+    ensures { λ _. ⌜ now (pages .exit) ≡ zeroed (now (pages .entry)) (node * 64) 64 ⌝ }
+{
+    let a = node as usize * 64;
+    let mut k = 0;
+    while k < 64 {
+        put(pages, a + k, 0);
+        k += 1;
+    }
+}
+
+// A node's row of entries goes to another node.
+pub fn move_row(pages: &mut [u32], from: u32, to: u32)
+    ensures { λ _. ⌜ now (pages .exit) ≡ rowMoved (now (pages .entry)) from to ⌝ }
+{
+    copy_row(pages, from, to);
+    clear_row(pages, from);
+}
+
 pub fn mapping_at(mappings: &[u32], place: u32) -> Mapping
     ensures { λ r. ⌜ r ≡ mappingOf (now (mappings .entry)) place ⌝ }
 {
@@ -166,11 +199,11 @@ pub fn number_at(mappings: &[u32], place: u32) -> u32
     m.number
 }
 
-// The lowest free node of the 64.
-pub fn free_node(nodes: &[u32]) -> Found
-    ensures { λ r. ⌜ r ≡ freeNodeIn (now (nodes .entry)) ⌝ }
+// The lowest free node from k on.
+pub fn free_node_from(nodes: &[u32], k: u32) -> Found
+    ensures { λ r. ⌜ r ≡ freeNodeFrom (now (nodes .entry)) k ⌝ }
 {
-    let mut i = 0;
+    let mut i = k;
     while i < 64 {
         if word_at(nodes, i, 0) == Node::FREE {
             return Found::At(i);
@@ -178,4 +211,11 @@ pub fn free_node(nodes: &[u32]) -> Found
         i += 1;
     }
     Found::Nothing
+}
+
+// The lowest free node of the 64.
+pub fn free_node(nodes: &[u32]) -> Found
+    ensures { λ r. ⌜ r ≡ freeNodeIn (now (nodes .entry)) ⌝ }
+{
+    free_node_from(nodes, 0)
 }
