@@ -1,2 +1,4 @@
 pub mod Words
+pub mod First
 pub mod Fresh
+pub mod Origin
