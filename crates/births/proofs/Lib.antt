@@ -2,3 +2,4 @@ pub mod Words
 pub mod First
 pub mod Fresh
 pub mod Origin
+pub mod New

@@ -1,0 +1,172 @@
+-- new: the pool stays sound, the new object reads zeros, and every other object what it read. Assumes nothing.
+use mathlib.Core.Path.{_≡_, refl, sym, ap, _∙_, subst}
+use mathlib.Core.Bool.{Bool, true, false}
+use mathlib.Core.List.{List}
+use Prim.Native.Nat.{ℕ, _+_, _*_, _≤_, _<_}
+use native.Mathlib.Omega.{arith}
+use lib.Dec.{leb}
+use lib.ListN.{length, getD, set, length-set}
+use lib.Seq.{getD-set-same}
+use borrow.Author.Tests.{eq-eqb, ne-eqb, leb-true}
+use Rattle.logic.specs.Pick.{pick}
+use Rattle.logic.specs.declared.Found.{Found}
+use Rattle.logic.specs.declared.Found.the-variants.{At, Nothing}
+use Rattle.logic.proofs.Means.{equal, split}
+use Rattle.entry.specs.declared.PageState.{PageState}
+use Rattle.entry.specs.declared.Slot.{Slot}
+use Rattle.entry.specs.declared.Slot.the-variants.{Empty, Held}
+use Rattle.node.specs.declared.Node.{Node}
+use Rattle.node.specs.Node.{originNode}
+use Rattle.tables.specs.Pool.{Pool, poolOf}
+use Rattle.tables.specs.Tables.{nodeOf, withNode, slotAt, freeNodeIn}
+use Rattle.sound.specs.Facts.{Leaf, Sound}
+use Rattle.pool.specs.declared.answer.Refusal.the-variants.{NoNode}
+use Rattle.pool.specs.Calls.{Call, refused, leafAt, newLeaf}
+use Rattle.isolation.specs.Walk.{Near, View, byteOf}
+use Rattle.isolation.specs.Walk.Near.{none, here, up}
+use Rattle.isolation.specs.Walk.View.{own, above}
+use Rattle.isolation.specs.Private.{linksOf, Windows, Shows, Private}
+use Rattle.isolation.proofs.Wood.{asked}
+use Rattle.isolation.proofs.Look.{ground}
+use Rattle.births.specs.Arrays.{blankArray}
+use Rattle.births.specs.Births.{Gave, Newborn, BlankBorn}
+use Rattle.births.proofs.Words.{node-length, node-same, node-away}
+use Rattle.births.proofs.First.{Free, found-free}
+use Rattle.births.proofs.Origin.{Sprung, was-free, each, hidden-not, parent-old, new-tree, no-entry, new-entries, new-mappings}
+
+empty-by : (y : Slot) → ((s : PageState) → y ≡ Held s → ⊥) → y ≡ Empty
+empty-by Empty f = refl
+empty-by (Held s) f = absurd (f s refl)
+
+module _ (L : ℕ) (p : Pool) (size i : ℕ) (small : size ≤ 64) (more : getD (p .head) 0 0 ≤ 16777215) (f : Free (p .nodes) 0 i) where
+  abbrev next : ℕ
+  next = getD (p .head) 0 0
+
+  abbrev N′ : List ℕ
+  N′ = withNode (p .nodes) i (originNode size next)
+
+  abbrev left : Pool
+  left = poolOf N′ (p .pages) (p .used) (p .mappings) (set (p .head) 0 (next + 1)) (p .memory)
+
+  module _ (S : Sound L p) where
+    sprung : Sprung (p .nodes) N′ next i size
+    sprung =
+        record {
+          free = f .kind;
+          small = small;
+          at-new = node-same (p .nodes) i (originNode size next) (S .lengths .nodes) (f .low);
+          at-old = λ n ne. node-away (p .nodes) i n (originNode size next) ne;
+        }
+
+    head-next : getD (set (p .head) 0 (next + 1)) 0 0 ≡ next + 1
+    head-next = let l = S .lengths .head in getD-set-same (p .head) 0 (next + 1) 0 (omega arith)
+
+    pub leaf-sound : Sound L left
+    leaf-sound =
+        let l = S .lengths in
+        record {
+          lengths = record {
+            nodes = node-length (p .nodes) i (originNode size next) ∙ l .nodes;
+            pages = l .pages;
+            mappings = l .mappings;
+            head = length-set (p .head) 0 (next + 1) ∙ l .head;
+            some-frame = l .some-frame;
+            most-frames = l .most-frames;
+            memory = l .memory;
+          };
+          tree = rw head-next (new-tree (p .nodes) N′ next i size sprung (S .tree) more);
+          entries = new-entries (p .nodes) N′ next i size sprung (S .tree) (p .pages) (p .used) (S .entries);
+          mappings = new-mappings (p .nodes) N′ next i size sprung (S .tree) (p .mappings) (S .mappings);
+        }
+
+  module _ (A : ℕ → ℕ → ℕ → ℕ) (Q : Private L A p) where
+    abbrev N : List ℕ
+    N = p .nodes
+
+    abbrev s : Sprung N N′ next i size
+    s = sprung (Q .sound)
+
+    windows : Windows N′
+    windows =
+        record {
+          whole = λ c h e. parent-old N N′ next i size s (Q .sound .tree) c h e (λ ne d. rw (s .at-old c ne) (Q .windows .whole c h d));
+          inside = λ c h e.
+              parent-old N N′ next i size s (Q .sound .tree) c h e
+              (λ ne d. rw (s .at-old c ne, s .at-old h (hidden-not N N′ next i size s (Q .sound .tree) h (Q .sound .tree .parents c h d .0))) (Q .windows .inside c h d));
+        }
+
+    par-not : (n j : ℕ) → linksOf N .asks n j ≡ true → linksOf N .par n ≡ i → ⊥
+    par-not n j a = hidden-not N N′ next i size s (Q .sound .tree) (linksOf N .par n) (asked N (ground L A p Q) n j a .hidden)
+
+    -- walks of other nodes are as before
+    walk : {E : ℕ → ℕ → Slot} {n j : ℕ} {x : Found} → (n ≡ i → ⊥) → Near (linksOf N) E n j x → Near (linksOf N′) E n j x
+    walk ne (none {n} {p = j} a z) = none {n = n} {p = j} (rw (s .at-old n ne) a) z
+    walk ne (here {n} {p = j} {s = e} a h t y) = here {n = n} {p = j} {s = e} (rw (s .at-old n ne) a) (rw (s .at-old n ne) h) (rw (s .at-old n ne, s .at-old (linksOf N .par n) (par-not n j a)) t) y
+    walk ne (up {n} {p = j} {x} a h d) = up {n = n} {p = j} {x = x} (rw (s .at-old n ne) a) (rw (s .at-old n ne) h) (rw (s .at-old n ne) (walk (par-not n j a) d))
+
+    sees : (E : ℕ → ℕ → Slot) (n j : ℕ) (x : Found) → (n ≡ i → ⊥) → View (linksOf N) E n j x → View (linksOf N′) E n j x
+    sees E n j x ne (own h y) = own h y
+    sees E n j x ne (above h d) = above h (walk ne d)
+
+    shows-new : (j : ℕ) → Shows L left i j (blankArray A i i j)
+    unfolding blankArray
+    shows-new j =
+        record {
+          source = Nothing;
+          view = above (empty-by (slotAt (p .pages) i j) (λ e h. no-entry N N′ next i size s (Q .sound .tree) (p .pages) (p .used) (Q .sound .entries) i j e h refl)) (none {n = i} {p = j} (rw (s .at-new)) refl);
+          bytes = λ k h. rw (eq-eqb i i refl);
+        }
+
+    shows-old : (l j : ℕ) → (l ≡ i → ⊥) → Shows L p l j (A l j) → Shows L left l j (blankArray A i l j)
+    unfolding blankArray
+    shows-old l j ne v =
+        record { source = v .source; view = sees (slotAt (p .pages)) l j (v .source) ne (v .view); bytes = λ k h. rw (ne-eqb l i ne) (v .bytes k h) }
+
+    pub leaf-born : BlankBorn L A p size i left
+    leaf-born =
+        record {
+          free = f .kind;
+          leaf = rw (s .at-new);
+          size = rw (s .at-new);
+          private = record {
+            sound = leaf-sound (Q .sound);
+            windows = windows;
+            shows = λ l j leaf low.
+                split (equal l i)
+                (λ e. subst (λ (m : ℕ). Shows L left m j (blankArray A i m j)) (sym e) (shows-new j))
+                (λ ne. shows-old l j ne (Q .shows l j (rw (s .at-old l ne) at leaf) (rw (s .at-old l ne) at low)));
+          };
+        }
+
+-- the step of new
+
+module _ (L : ℕ) (p : Pool) (size : ℕ) (small : size ≤ 64) where
+  leaf-facts : Sound L p → getD (p .head) 0 0 ≤ 16777215 → (f : Found) → freeNodeIn (p .nodes) ≡ f → Sound L (leafAt p size f .pool)
+  unfolding leafAt
+  leaf-facts S l (At i) e = leaf-sound L p size i small l (found-free (p .nodes) (S .lengths .nodes) i e) S
+  leaf-facts S l Nothing e = S
+
+  pub new-facts : Sound L p → Sound L (newLeaf p size .pool)
+  unfolding newLeaf
+  new-facts S = by (leb (getD (p .head) 0 0) 16777215) refl
+    where
+      by : (b : Bool) → leb (getD (p .head) 0 0) 16777215 ≡ b → Sound L (pick b (leafAt p size (freeNodeIn (p .nodes))) (refused NoNode p) .pool)
+      by true t = leaf-facts S (leb-true (getD (p .head) 0 0) 16777215 t) (freeNodeIn (p .nodes)) refl
+      by false t = S
+
+  module _ (A : ℕ → ℕ → ℕ → ℕ) where
+    abbrev Goes : Call → Type 0
+    Goes c = Gave p (BlankBorn L A p size) (c .answer) (c .pool)
+
+    leaf-gave : Private L A p → getD (p .head) 0 0 ≤ 16777215 → (f : Found) → freeNodeIn (p .nodes) ≡ f → Goes (leafAt p size f)
+    unfolding leafAt
+    leaf-gave Q l (At i) e = leaf-born L p size i small l (found-free (p .nodes) (Q .sound .lengths .nodes) i e) A Q
+    leaf-gave Q l Nothing e = refl
+
+    pub new-gave : Private L A p → Gave p (BlankBorn L A p size) (newLeaf p size .answer) (newLeaf p size .pool)
+    unfolding newLeaf
+    new-gave Q = by (leb (getD (p .head) 0 0) 16777215) refl
+      where
+        by : (b : Bool) → leb (getD (p .head) 0 0) 16777215 ≡ b → Goes (pick b (leafAt p size (freeNodeIn (p .nodes))) (refused NoNode p))
+        by true t = leaf-gave Q (leb-true (getD (p .head) 0 0) 16777215 t) (freeNodeIn (p .nodes)) refl
+        by false t = refl
