@@ -3,3 +3,4 @@ pub mod First
 pub mod Fresh
 pub mod Origin
 pub mod New
+pub mod Places
