@@ -4,3 +4,5 @@ pub mod Fresh
 pub mod Origin
 pub mod New
 pub mod Places
+pub mod Listed
+pub mod Remap
