@@ -6,3 +6,5 @@ pub mod New
 pub mod Places
 pub mod Listed
 pub mod Remap
+pub mod Cloned
+pub mod Offspring
