@@ -8,3 +8,4 @@ pub mod Listed
 pub mod Remap
 pub mod Cloned
 pub mod Offspring
+pub mod Growth

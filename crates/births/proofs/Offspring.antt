@@ -59,13 +59,13 @@ module _ (N N′ : List ℕ) (n x c first pages next : ℕ) (D : Cloned N N′ n
   was-hidden : (m : ℕ) → Old n x c m → Hidden N′ m → Hidden N m
   was-hidden m o h = sym (D .at-old m o .kind) ∙ h
 
-  left-by : (m : ℕ) → Which n x c m → Hidden N′ m → Names N′ m (nodeOf N′ m .left)
+  pub left-by : (m : ℕ) → Which n x c m → Hidden N′ m → Names N′ m (nodeOf N′ m .left)
   left-by m (is-x e) h = rw (e, D .at-x) names-n
   left-by m (is-n e) h = absurd (kind-n N N′ n x c first pages next D (rw e at h))
   left-by m (is-c e) h = absurd (kind-c N N′ n x c first pages next D (rw e at h))
   left-by m (is-old o) h = names-old m (nodeOf N m .left) (nodeOf N′ m .left) (D .at-old m o .left) (t .left-child m (was-hidden m o h))
 
-  right-by : (m : ℕ) → Which n x c m → Hidden N′ m → Names N′ m (nodeOf N′ m .right)
+  pub right-by : (m : ℕ) → Which n x c m → Hidden N′ m → Names N′ m (nodeOf N′ m .right)
   right-by m (is-x e) h = rw (e, D .at-x) names-c
   right-by m (is-n e) h = absurd (kind-n N N′ n x c first pages next D (rw e at h))
   right-by m (is-c e) h = absurd (kind-c N N′ n x c first pages next D (rw e at h))
@@ -81,7 +81,7 @@ module _ (N N′ : List ℕ) (n x c first pages next : ℕ) (D : Cloned N N′ n
       (λ p. split (equal b (n + 1)) (λ q. ne (p ∙ sym q)) (λ q. link-not-x h b k (sym (v .kept q) ∙ sym e ∙ u .moved p)))
       (λ p. split (equal b (n + 1)) (λ q. link-not-x h a j (sym (u .kept p) ∙ e ∙ v .moved q)) (λ q. ne (sym (u .kept p) ∙ e ∙ v .kept q)))
 
-  distinct-by : (m : ℕ) → Which n x c m → Hidden N′ m → nodeOf N′ m .left ≡ nodeOf N′ m .right → ⊥
+  pub distinct-by : (m : ℕ) → Which n x c m → Hidden N′ m → nodeOf N′ m .left ≡ nodeOf N′ m .right → ⊥
   distinct-by m (is-x e) h = rw (e, D .at-x) (λ q. c-not-n N N′ n x c first pages next D (omega arith))
   distinct-by m (is-n e) h = absurd (kind-n N N′ n x c first pages next D (rw e at h))
   distinct-by m (is-c e) h = absurd (kind-c N N′ n x c first pages next D (rw e at h))
@@ -90,7 +90,7 @@ module _ (N N′ : List ℕ) (n x c first pages next : ℕ) (D : Cloned N N′ n
       let r = D .at-old m o in
       apart-by m (nodeOf N m .left) (nodeOf N m .right) (nodeOf N′ m .left) (nodeOf N′ m .right) (r .left) (r .right) (t .left-child m k) (t .right-child m k) (t .distinct m k)
 
-  childless-by : (m : ℕ) → Which n x c m → (Hidden N′ m → ⊥) → (nodeOf N′ m .left ≡ 0) × (nodeOf N′ m .right ≡ 0)
+  pub childless-by : (m : ℕ) → Which n x c m → (Hidden N′ m → ⊥) → (nodeOf N′ m .left ≡ 0) × (nodeOf N′ m .right ≡ 0)
   childless-by m (is-x e) h = absurd (h (rw e (kind-x N N′ n x c first pages next D)))
   childless-by m (is-n e) h = rw (e, D .at-n) (t .childless n (λ k. h (rw (e, D .at-n) k)))
   childless-by m (is-c e) h = rw (e, D .at-c) (refl, refl)
@@ -101,7 +101,7 @@ module _ (N N′ : List ℕ) (n x c first pages next : ℕ) (D : Cloned N N′ n
 
   -- parents
 
-  parents-by : (m h : ℕ) → Which n x c m → nodeOf N′ m .parent ≡ h + 1 → Hidden N′ h × ChildOf N′ h m
+  pub parents-by : (m h : ℕ) → Which n x c m → nodeOf N′ m .parent ≡ h + 1 → Hidden N′ h × ChildOf N′ h m
   parents-by m h (is-x e) p =
       let q : nodeOf N n .parent ≡ h + 1 = sym (ap (λ (k : ℕ). nodeOf N′ k .parent) e ∙ ap (λ (r : Node). r .parent) (D .at-x)) ∙ p in
       let g = t .parents n h q in
@@ -146,7 +146,7 @@ module _ (N N′ : List ℕ) (n x c first pages next : ℕ) (D : Cloned N N′ n
       let e : nodeOf N n .parent ≡ h + 1 = omega arith in
       rw e (ends-old (λ k p. let d : k ≡ h = omega arith in rw d (hidden-old N N′ n x c first pages next D h (t .parents n h e .0))) (t .chains h)))))
 
-  chain-by : (m : ℕ) → Which n x c m → Ends N′ (m + 1)
+  pub chain-by : (m : ℕ) → Which n x c m → Ends N′ (m + 1)
   chain-by m (is-x e) = rw e ends-x
   chain-by m (is-n e) = up m refl (rw (e, D .at-n) ends-x)
   chain-by m (is-c e) = up m refl (rw (e, D .at-c) ends-x)
