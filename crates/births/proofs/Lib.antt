@@ -9,3 +9,4 @@ pub mod Remap
 pub mod Cloned
 pub mod Offspring
 pub mod Growth
+pub mod Handed
