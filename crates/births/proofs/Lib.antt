@@ -10,3 +10,4 @@ pub mod Cloned
 pub mod Offspring
 pub mod Growth
 pub mod Handed
+pub mod Walked
