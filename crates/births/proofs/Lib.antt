@@ -11,3 +11,4 @@ pub mod Offspring
 pub mod Growth
 pub mod Handed
 pub mod Walked
+pub mod Kin
