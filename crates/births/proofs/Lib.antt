@@ -12,3 +12,5 @@ pub mod Growth
 pub mod Handed
 pub mod Walked
 pub mod Kin
+pub mod Written
+pub mod Moved
