@@ -14,3 +14,5 @@ pub mod Walked
 pub mod Kin
 pub mod Written
 pub mod Moved
+pub mod Fitting
+pub mod Child
