@@ -16,3 +16,5 @@ pub mod Written
 pub mod Moved
 pub mod Fitting
 pub mod Child
+pub mod Bear
+pub mod Calls
