@@ -1,8 +1,8 @@
 -- The steps of create_child: refused they leave the pool, done they give birth. Assumes nothing.
-use mathlib.Core.Path.{_≡_, refl, sym}
+use mathlib.Core.Path.{_≡_, refl}
 use mathlib.Core.Bool.{Bool, true, false}
 use mathlib.Core.List.{List}
-use Prim.Native.Nat.{ℕ, _+_, _/_, _≤_, _<_}
+use Prim.Native.Nat.{ℕ, _+_, _/_, _≤_}
 use native.Mathlib.Omega.{arith}
 use lib.Dec.{leb}
 use lib.ListN.{getD}
@@ -24,7 +24,8 @@ use Rattle.births.specs.Births.{Gave, CloneBorn}
 use Rattle.births.proofs.First.{Free, found-free, found-from}
 use Rattle.births.proofs.Fitting.{Allows, allows}
 use Rattle.births.proofs.Written.{Granted}
-use Rattle.births.proofs.Child.{bornPool, born-sound, born-private}
+use Rattle.births.proofs.Child.{born-sound}
+use Rattle.births.proofs.Shown.{born-private}
 
 module _ (L : ℕ) (p : Pool) (list : List ℕ) (S : Sound L p) (n first pages : ℕ) (leaf : Leaf (p .nodes) n) (fits : first + pages ≤ nodeOf (p .nodes) n .size) where
   -- what was found is free

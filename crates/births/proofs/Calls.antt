@@ -1,13 +1,12 @@
 -- The calls start, new, len, append_mapping, remove_mapping, forecast and create_child leave a sound pool sound, whatever their arguments and
--- answers; and they keep every object's array. Assumes nothing.
+-- answers. Assumes nothing.
 use mathlib.Core.Path.{_≡_, refl}
 use mathlib.Core.Bool.{Bool, true, false}
 use mathlib.Core.List.{List}
-use Prim.Native.Nat.{ℕ, _/_, _≤_}
+use Prim.Native.Nat.{ℕ}
 use lib.Dec.{leb, ltb}
 use borrow.Author.Tests.{leb-true}
 use Rattle.logic.specs.Pick.{pick}
-use Rattle.logic.specs.declared.Found.{Found}
 use Rattle.logic.specs.declared.Found.the-variants.{At, Nothing}
 use Rattle.node.specs.Node.{leafOf}
 use Rattle.tables.specs.Pool.{Pool}
@@ -21,21 +20,19 @@ use Rattle.pool.specs.declared.answer.Refusal.the-variants.{InvalidArgs, BadPoo
 use Rattle.pool.specs.Calls.{Call, callOf, refused, freshPool, start, newLeaf, new, findObject, atNode, onNode, len}
 use Rattle.mapped.specs.Mapped.{appendAt, removeAt, appendMapping, removeMapping}
 use Rattle.forecast.specs.Forecast.{forecast}
-use Rattle.commit.specs.Noted.{Said, refusedOf}
+use Rattle.commit.specs.Noted.{refusedOf}
 use Rattle.child.specs.Child.{childAt, createChild}
-use Rattle.isolation.specs.Private.{Private}
-use Rattle.births.specs.Births.{Gave, BlankBorn, CloneBorn}
-use Rattle.births.proofs.Fresh.{fresh-sound, fresh-private}
-use Rattle.births.proofs.New.{new-facts, new-gave}
-use Rattle.births.proofs.Remap.{append-facts, remove-facts, append-private, remove-private}
-use Rattle.births.proofs.Bear.{child-facts, child-gave}
+use Rattle.births.proofs.Fresh.{fresh-sound}
+use Rattle.births.proofs.New.{new-facts}
+use Rattle.births.proofs.Remap.{append-facts, remove-facts}
+use Rattle.births.proofs.Bear.{child-facts}
 
 -- a call on an object: what holds of its refusals and of what it does with a live leaf holds of it
 module _ {A : Type 0} (L : ℕ) (p : Pool) (object : ℕ) (refuse : Refusal → A) (does : ℕ → A) (B : A → Type 0) (stay : (r : Refusal) → B (refuse r))
-    (go : (n : ℕ) → Leaf (p .nodes) n → B (does n)) where
+    (go : Leaf (p .nodes) object → B (does object)) where
   found-by : (a b : Bool) → leafOf (nodeOf (p .nodes) object) ≡ b → B (atNode refuse does (pick a (pick b (At object) Nothing) Nothing))
   unfolding atNode
-  found-by true true h = go object h
+  found-by true true h = go h
   found-by true false h = stay NoObject
   found-by false b h = stay NoObject
 
@@ -79,22 +76,22 @@ module _ (L : ℕ) (p : Pool) (s : sound L p ≡ true) where
   Fine c = sound L (c .pool) ≡ true
 
   pub len-sound : (object : ℕ) → Fine (len L p object)
-  len-sound object = on-node L p object (λ r. refused r p) _ Fine (λ r. s) (λ n l. s)
+  len-sound object = on-node L p object (λ r. refused r p) _ Fine (λ r. s) (λ l. s)
 
   pub forecast-sound : (object offset bytes : ℕ) → Fine (forecast L p object offset bytes)
-  forecast-sound object offset bytes = on-node L p object (λ r. refused r p) _ Fine (λ r. s) (λ n l. s)
+  forecast-sound object offset bytes = on-node L p object (λ r. refused r p) _ Fine (λ r. s) (λ l. s)
 
   pub append-sound : (object first count : ℕ) → Fine (appendMapping L p object first count)
   append-sound object first count =
       on-node L p object (λ r. refused r p) (λ n. appendAt p n first count) Fine (λ r. s)
-      (λ n l. facts-sound L (appendAt p n first count .pool) (append-facts L p n first count l S))
+      (λ l. facts-sound L (appendAt p object first count .pool) (append-facts L p object first count l S))
 
   pub remove-sound : (object mapping : ℕ) → Fine (removeMapping L p object mapping)
   remove-sound object mapping =
       on-node L p object (λ r. refused r p) (λ n. removeAt p n mapping) Fine (λ r. s)
-      (λ n l. facts-sound L (removeAt p n mapping .pool) (remove-facts L p n mapping S))
+      (λ l. facts-sound L (removeAt p object mapping .pool) (remove-facts L p object mapping S))
 
   pub child-sound : (list : List ℕ) (object offset bytes : ℕ) → sound L (createChild L p list object offset bytes .pool) ≡ true
   child-sound list object offset bytes =
       on-node L p object (refusedOf p list) (λ n. childAt L p list n offset bytes) (λ c. sound L (c .pool) ≡ true) (λ r. s)
-      (λ n l. facts-sound L (childAt L p list n offset bytes .pool) (child-facts L p list n offset bytes l S))
+      (λ l. facts-sound L (childAt L p list object offset bytes .pool) (child-facts L p list object offset bytes l S))

@@ -1,9 +1,9 @@
 -- A child c is born of the object n: a hidden node x takes the object's place and has the two below it. Over what is read of the node table
 -- before and after. Assumes nothing.
-use mathlib.Core.Path.{_≡_, refl, sym, ap, _∙_, subst}
+use mathlib.Core.Path.{_≡_, sym, ap, _∙_, subst}
 use mathlib.Core.Bool.{false}
 use mathlib.Core.List.{List}
-use Prim.Native.Nat.{ℕ, _+_, _≤_, _<_}
+use Prim.Native.Nat.{ℕ, _+_, _≤_}
 use native.Mathlib.Omega.{arith}
 use Rattle.logic.proofs.Means.{equal, split}
 use Rattle.node.specs.declared.Node.{Node}

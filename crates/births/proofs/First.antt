@@ -8,8 +8,7 @@ use lib.ListN.{length}
 use borrow.Author.Tests.{eqb-true, le-leb}
 use Rattle.logic.specs.Pick.{pick}
 use Rattle.logic.specs.Below.{firstFrom}
-use Rattle.logic.specs.declared.Found.{Found}
-use Rattle.logic.specs.declared.Found.the-variants.{At, Nothing}
+use Rattle.logic.specs.declared.Found.the-variants.{At}
 use Rattle.logic.proofs.Means.{equal, split}
 use Rattle.tables.specs.Tables.{wordOf, recordOf, nodeOf, isFree, freeNodeIn, freeNodeFrom}
 

@@ -1,7 +1,7 @@
 -- What create_child's tests say of the child's pages. Assumes nothing.
 use mathlib.Core.Path.{_≡_, refl}
 use mathlib.Core.Bool.{Bool, true, false, _&&_}
-use Prim.Native.Nat.{ℕ, zero, suc, _+_, _*_, _/_, _%_, _≤_, _<_}
+use Prim.Native.Nat.{ℕ, zero, suc, _+_, _*_, _/_, _%_, _≤_}
 use native.Mathlib.Omega.{arith}
 use native.Mathlib.Nat.{div-zero, div-add-mod', mul-le-mul-right, suc-mul, add-mul}
 use lib.Dec.{eqb, leb}
@@ -11,7 +11,6 @@ use Rattle.logic.proofs.Laws.{and-left, and-right}
 use Rattle.logic.proofs.Means.{most, split}
 use Rattle.blocks.specs.Blocks.{alignedOf}
 use Rattle.node.specs.declared.Node.{Node}
-use Rattle.pool.specs.declared.answer.Against.{Against}
 use Rattle.pool.specs.declared.answer.Against.the-variants.{Why, Nothing as Fine}
 use Rattle.pool.specs.declared.answer.Refusal as R
 use Rattle.child.specs.Child.{againstChild}
@@ -45,7 +44,7 @@ allows-by L r offset len true true true x y z e =
     let w = and-left (alignedOf L offset && alignedOf L len) (leb len (64 * L)) x in
     record {
       fits = pages-fit L offset len (r .size) (eqb-true (offset % L) 0 (and-left (alignedOf L offset) (alignedOf L len) w))
-      (eqb-true (len % L) 0 (and-right (alignedOf L offset) (alignedOf L len) w)) (leb-true (offset + len) (r .size * L) z);
+          (eqb-true (len % L) 0 (and-right (alignedOf L offset) (alignedOf L len) w)) (leb-true (offset + len) (r .size * L) z);
       unpinned = eqb-true (r .«pin_count») 0 (and-right (eqb (r .«cache_policy») 0) (eqb (r .«pin_count») 0) y);
     }
 allows-by L r offset len true true false x y z e = why-not e

@@ -1,30 +1,29 @@
 -- A fresh pool is sound, and as it has no object, its arrays are any. Assumes nothing.
-use mathlib.Core.Path.{_≡_, refl, sym, ap, _∙_}
+use mathlib.Core.Path.{_≡_, refl, ap, _∙_}
 use mathlib.Core.Bool.{Bool, true, false}
 use mathlib.Core.List.{List}
-use Prim.Native.Nat.{ℕ, _+_, _-_, _*_, _≤_, _<_}
+use Prim.Native.Nat.{ℕ, _+_, _*_}
 use native.Mathlib.Omega.{arith}
 use lib.Dec.{leb, ltb}
-use lib.ListN.{length, getD, set, replicate, length-set, length-replicate, getD-replicate, List·getD-eq-default}
+use lib.ListN.{length, getD, replicate, length-set, length-replicate, getD-replicate, List·getD-eq-default}
 use lib.Seq.{getD-set-same}
 use Rattle.logic.specs.Pick.{pick}
-use Rattle.logic.specs.Below.{sumBelow}
 use Rattle.logic.proofs.Means.{less, split}
 use Rattle.entry.specs.declared.PageState.{PageState}
-use Rattle.entry.specs.declared.Slot.the-variants.{Empty, Held}
+use Rattle.entry.specs.declared.Slot.the-variants.{Empty}
 use Rattle.entry.specs.Entry.{slotOf}
 use Rattle.node.specs.declared.Node.{Node}
 use Rattle.node.specs.Node.{freeNode}
 use Rattle.tables.specs.declared.Mapping.{Mapping}
 use Rattle.tables.specs.Pool.{Pool}
 use Rattle.tables.specs.Tables.{wordOf, recordOf, nodeOf, entryOf, slotAt, mappingOf, mappingBy}
-use Rattle.sound.specs.Facts.{Leaf, Ends, Tree, Holds, pinsOf, Entries, Mappings, Lengths, Sound}
+use Rattle.sound.specs.Facts.{Tree, Holds, pinsOf, Entries, Mappings, Lengths, Sound}
 use Rattle.sound.specs.Facts.Ends.{none, up}
 use Rattle.sound.specs.Sound.{lengthsOk, sound}
 use Rattle.soundness.proofs.Sums.{sum-most}
 use Rattle.soundness.proofs.Soundness.{lengths-mean, facts-sound}
 use Rattle.pool.specs.Calls.{freshPool}
-use Rattle.isolation.specs.Private.{Windows, Private}
+use Rattle.isolation.specs.Private.{Private}
 use Rattle.isolation.proofs.Pass.{held-not}
 
 abbrev zeros : ℕ → List ℕ

@@ -1,7 +1,7 @@
 -- A birth adds the child's start to the window starts, and keeps the other numbers of the tree. Assumes nothing.
 use mathlib.Core.Path.{_≡_, refl, sym, ap, _∙_}
 use mathlib.Core.List.{List}
-use Prim.Native.Nat.{ℕ, zero, suc, _+_, _-_, _*_, _≤_, _<_}
+use Prim.Native.Nat.{ℕ, zero, suc, _+_, _≤_, _<_}
 use native.Mathlib.Omega.{arith}
 use lib.Dec.{eqb}
 use lib.ListN.{length}
@@ -12,10 +12,10 @@ use Rattle.logic.proofs.Means.{equal, less, split}
 use Rattle.node.specs.declared.Node.{Node}
 use Rattle.node.specs.Node.{freeNode}
 use Rattle.tables.specs.Tables.{nodeOf}
-use Rattle.sound.specs.Facts.{Live, Tree}
+use Rattle.sound.specs.Facts.{Tree}
 use Rattle.soundness.proofs.Records.{node-out}
 use Rattle.soundness.proofs.Sums.{sum-same}
-use Rattle.births.proofs.Cloned.{Old, Which, which, Cloned, each, live-n, x-not-n, c-not-n}
+use Rattle.births.proofs.Cloned.{Which, which, Cloned, each, live-n, x-not-n, c-not-n}
 use Rattle.births.proofs.Cloned.Which.{is-x, is-n, is-c, is-old}
 use Rattle.births.proofs.Offspring.{left-by, right-by, distinct-by, childless-by, parents-by, chain-by}
 

@@ -1,20 +1,16 @@
 -- At a birth the object's row of entries goes to the hidden node: the facts of the entries and of the mappings are kept. Assumes nothing.
-use mathlib.Core.Path.{_≡_, refl, sym, ap, _∙_}
+use mathlib.Core.Path.{_≡_, sym, ap, _∙_}
 use mathlib.Core.List.{List}
-use Prim.Native.Nat.{ℕ, zero, suc, _+_, _*_, _≤_, _<_}
+use Prim.Native.Nat.{ℕ, zero, suc, _≤_, _<_}
 use native.Mathlib.Omega.{arith}
-use lib.ListN.{length, getD}
 use Rattle.logic.specs.Below.{sumBelow}
 use Rattle.logic.proofs.Means.{equal, less, split}
 use Rattle.entry.specs.declared.PageState.{PageState}
-use Rattle.entry.specs.declared.PageStateTag.the-variants.{Owned}
-use Rattle.entry.specs.declared.Slot.{Slot}
-use Rattle.entry.specs.declared.Slot.the-variants.{Empty, Held}
-use Rattle.entry.specs.Entry.{slotOf, entryWord}
+use Rattle.entry.specs.declared.Slot.the-variants.{Empty}
+use Rattle.entry.specs.Entry.{slotOf}
 use Rattle.node.specs.declared.Node.{Node}
-use Rattle.node.specs.Node.{leafOf}
 use Rattle.tables.specs.Tables.{nodeOf, entryOf, slotAt, mappingOf}
-use Rattle.sound.specs.Facts.{Hidden, Leaf, Tree, Holds, pinsOf, Stands, Entries, Mappings}
+use Rattle.sound.specs.Facts.{Leaf, Tree, Holds, pinsOf, Stands, Entries, Mappings}
 use Rattle.soundness.proofs.Records.{entry-past}
 use Rattle.soundness.proofs.Slots.{absent}
 use Rattle.soundness.proofs.Sums.{sum-same, sum-most}

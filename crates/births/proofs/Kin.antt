@@ -1,26 +1,24 @@
--- The nodes as walks see them before and after a birth, and the windows kept. Assumes nothing.
-use mathlib.Core.Path.{_≡_, refl, sym, ap, _∙_}
-use mathlib.Core.Bool.{Bool, true, false, _&&_, not}
+-- The nodes as walks see them before and after a birth. Assumes nothing.
+use mathlib.Core.Path.{_≡_, sym, ap, _∙_}
+use mathlib.Core.Bool.{Bool, true, _&&_, not}
 use mathlib.Core.List.{List}
-use mathlib.Core.Logic.{inl, inr, ⊎-elim}
-use Prim.Native.Nat.{ℕ, _+_, _-_, _≤_, _<_}
+use mathlib.Core.Logic.{⊎-elim}
+use Prim.Native.Nat.{ℕ, _+_, _-_, _<_}
 use native.Mathlib.Omega.{arith}
 use lib.Dec.{eqb, leb}
-use lib.ListN.{length}
-use borrow.Author.Tests.{eq-eqb, ne-eqb, eqb-false, le-leb, lt-leb}
+use borrow.Author.Tests.{eq-eqb, ne-eqb, le-leb, lt-leb}
 use Rattle.logic.proofs.Means.{equal, most, split}
 use Rattle.entry.specs.declared.PageState.{PageState}
 use Rattle.entry.specs.declared.PageStateTag.the-variants.{Owned, LeftSplit, RightSplit}
 use Rattle.entry.specs.declared.Slot.{Slot}
 use Rattle.entry.specs.declared.Slot.the-variants.{Empty, Held}
 use Rattle.node.specs.declared.Node.{Node}
-use Rattle.node.specs.Node.{hiddenOf, outOf, sideOf}
+use Rattle.node.specs.Node.{outOf, sideOf}
 use Rattle.tables.specs.Tables.{nodeOf}
 use Rattle.sound.specs.Facts.{Hidden, ChildOf, Tree}
-use Rattle.isolation.specs.Private.{linksOf, Windows}
+use Rattle.isolation.specs.Private.{linksOf}
 use Rattle.isolation.proofs.Wood.{Ground, asked}
-use Rattle.births.proofs.Cloned.{Old, Which, which, Relinks, Cloned, aboveNode, underNode, childNode, leaf-seen, x-not-n, c-not-n, hidden-old, hidden-kept, kind-x}
-use Rattle.births.proofs.Cloned.Which.{is-x, is-n, is-c, is-old}
+use Rattle.births.proofs.Cloned.{Old, Relinks, Cloned, aboveNode, underNode, childNode, leaf-seen, hidden-old, hidden-kept, kind-x}
 use Rattle.births.proofs.Walked.{Born, Below}
 
 -- the side of a child
@@ -152,49 +150,3 @@ module _ (N N′ : List ℕ) (n x c first pages owner next′ : ℕ) (D : Cloned
             omega arith;
         bare = bare;
       }
-
-  -- windows
-
-  parent-x : (m h : ℕ) → m ≡ x → nodeOf N′ m .parent ≡ h + 1 → nodeOf N n .parent ≡ h + 1
-  parent-x m h e p = sym (ap (λ (k : ℕ). nodeOf N′ k .parent) e ∙ ap (λ (r : Node). r .parent) (D .at-x)) ∙ p
-
-  size-kept : (h : ℕ) → Hidden N h → nodeOf N′ h .size ≡ nodeOf N h .size
-  size-kept h k = D .at-old h (old-of h k) .size
-
-  whole-by : (m h : ℕ) → Which n x c m → nodeOf N′ m .parent ≡ h + 1 → nodeOf N′ m .«parent_limit» ≡ nodeOf N′ m .«parent_offset» + nodeOf N′ m .size
-  whole-by m h (is-x e) p = rw (e, D .at-x) (G .windows .whole n h (parent-x m h e p))
-  whole-by m h (is-n e) p = rw (e, D .at-n) (omega arith)
-  whole-by m h (is-c e) p = rw (e, D .at-c) refl
-  whole-by m h (is-old o) p = let r = D .at-old m o in rw (r .limit, r .start, r .size) (G .windows .whole m h (sym (r .parent) ∙ p))
-
-  x-of : (m h : ℕ) → nodeOf N′ m .parent ≡ x + 1 → nodeOf N′ m .parent ≡ h + 1 → h ≡ x
-  x-of m h e p = omega arith
-
-  size-x : (h : ℕ) → h ≡ x → nodeOf N′ h .size ≡ nodeOf N n .size
-  size-x h e = rw (e, D .at-x)
-
-  inside-by : (m h : ℕ) → Which n x c m → nodeOf N′ m .parent ≡ h + 1 → nodeOf N′ m .«parent_limit» ≤ nodeOf N′ h .size
-  inside-by m h (is-x e) p =
-      let q = parent-x m h e p in
-      let s = size-kept h (G .tree .parents n h q .0) in
-      let w = G .windows .inside n h q in
-      let l : nodeOf N′ m .«parent_limit» ≡ nodeOf N n .«parent_limit» = rw (e, D .at-x) in
-      omega arith
-  inside-by m h (is-n e) p =
-      let s = size-x h (x-of m h (rw (e, D .at-n)) p) in
-      let l : nodeOf N′ m .«parent_limit» ≡ nodeOf N n .size = rw (e, D .at-n) in
-      omega arith
-  inside-by m h (is-c e) p =
-      let s = size-x h (x-of m h (rw (e, D .at-c)) p) in
-      let l : nodeOf N′ m .«parent_limit» ≡ first + pages = rw (e, D .at-c) in
-      let f = D .fits in
-      omega arith
-  inside-by m h (is-old o) p =
-      let q = sym (D .at-old m o .parent) ∙ p in
-      let s = size-kept h (G .tree .parents m h q .0) in
-      let w = G .windows .inside m h q in
-      let l = D .at-old m o .limit in
-      omega arith
-
-  pub born-windows : Windows N′
-  born-windows = record { whole = λ m h. whole-by m h (which n x c m); inside = λ m h. inside-by m h (which n x c m) }

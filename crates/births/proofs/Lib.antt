@@ -12,9 +12,13 @@ pub mod Growth
 pub mod Handed
 pub mod Walked
 pub mod Kin
+pub mod Windowed
+pub mod Relinked
 pub mod Written
 pub mod Moved
 pub mod Fitting
 pub mod Child
+pub mod Shown
 pub mod Bear
 pub mod Calls
+pub mod Arrays

@@ -1,11 +1,11 @@
 -- new: the pool stays sound, the new object reads zeros, and every other object what it read. Assumes nothing.
-use mathlib.Core.Path.{_≡_, refl, sym, ap, _∙_, subst}
+use mathlib.Core.Path.{_≡_, refl, sym, _∙_, subst}
 use mathlib.Core.Bool.{Bool, true, false}
 use mathlib.Core.List.{List}
-use Prim.Native.Nat.{ℕ, _+_, _*_, _≤_, _<_}
+use Prim.Native.Nat.{ℕ, _+_, _≤_}
 use native.Mathlib.Omega.{arith}
 use lib.Dec.{leb}
-use lib.ListN.{length, getD, set, length-set}
+use lib.ListN.{getD, set, length-set}
 use lib.Seq.{getD-set-same}
 use borrow.Author.Tests.{eq-eqb, ne-eqb, leb-true}
 use Rattle.logic.specs.Pick.{pick}
@@ -15,24 +15,23 @@ use Rattle.logic.proofs.Means.{equal, split}
 use Rattle.entry.specs.declared.PageState.{PageState}
 use Rattle.entry.specs.declared.Slot.{Slot}
 use Rattle.entry.specs.declared.Slot.the-variants.{Empty, Held}
-use Rattle.node.specs.declared.Node.{Node}
 use Rattle.node.specs.Node.{originNode}
 use Rattle.tables.specs.Pool.{Pool, poolOf}
-use Rattle.tables.specs.Tables.{nodeOf, withNode, slotAt, freeNodeIn}
-use Rattle.sound.specs.Facts.{Leaf, Sound}
+use Rattle.tables.specs.Tables.{withNode, slotAt, freeNodeIn}
+use Rattle.sound.specs.Facts.{Sound}
 use Rattle.pool.specs.declared.answer.Refusal.the-variants.{NoNode}
 use Rattle.pool.specs.Calls.{Call, refused, leafAt, newLeaf}
-use Rattle.isolation.specs.Walk.{Near, View, byteOf}
+use Rattle.isolation.specs.Walk.{Near, View}
 use Rattle.isolation.specs.Walk.Near.{none, here, up}
 use Rattle.isolation.specs.Walk.View.{own, above}
 use Rattle.isolation.specs.Private.{linksOf, Windows, Shows, Private}
 use Rattle.isolation.proofs.Wood.{asked}
 use Rattle.isolation.proofs.Look.{ground}
 use Rattle.births.specs.Arrays.{blankArray}
-use Rattle.births.specs.Births.{Gave, Newborn, BlankBorn}
+use Rattle.births.specs.Births.{Gave, BlankBorn}
 use Rattle.births.proofs.Words.{node-length, node-same, node-away}
 use Rattle.births.proofs.First.{Free, found-free}
-use Rattle.births.proofs.Origin.{Sprung, was-free, each, hidden-not, parent-old, new-tree, no-entry, new-entries, new-mappings}
+use Rattle.births.proofs.Origin.{Sprung, hidden-not, parent-old, new-tree, no-entry, new-entries, new-mappings}
 
 empty-by : (y : Slot) → ((s : PageState) → y ≡ Held s → ⊥) → y ≡ Empty
 empty-by Empty f = refl

@@ -2,16 +2,14 @@
 use mathlib.Core.Path.{_≡_, refl, sym, ap, _∙_}
 use mathlib.Core.List.{List}
 use mathlib.Core.Logic.{inl, inr, ⊎-elim}
-use Prim.Native.Nat.{ℕ, _+_, _-_, _*_, _≤_, _<_}
+use Prim.Native.Nat.{ℕ, _+_, _-_}
 use native.Mathlib.Omega.{arith}
-use Rattle.logic.specs.Below.{sumBelow}
 use Rattle.logic.proofs.Means.{equal, split}
 use Rattle.node.specs.declared.Node.{Node}
-use Rattle.node.specs.Node.{freeNode}
 use Rattle.tables.specs.Tables.{nodeOf}
 use Rattle.sound.specs.Facts.{Live, Hidden, ChildOf, Names, Ends, Tree}
 use Rattle.sound.specs.Facts.Ends.{none, up}
-use Rattle.births.proofs.Cloned.{Old, Which, which, Moves, Relinks, Cloned, each, live-n, c-not-n, live-not-x, live-old, hidden-old, hidden-kept, kind-n, kind-c, kind-x}
+use Rattle.births.proofs.Cloned.{Old, Which, Moves, Cloned, live-n, c-not-n, live-not-x, live-old, hidden-old, hidden-kept, kind-n, kind-c, kind-x}
 use Rattle.births.proofs.Cloned.Which.{is-x, is-n, is-c, is-old}
 
 module _ (N N′ : List ℕ) (n x c first pages next : ℕ) (D : Cloned N N′ n x c first pages next) (t : Tree N next) where
@@ -117,13 +115,12 @@ module _ (N N′ : List ℕ) (n x c first pages next : ℕ) (D : Cloned N N′ n
       rw (d, e, D .at-x) (refl, inr refl)
   parents-by m h (is-old o) p =
       let g = t .parents m h (sym (D .at-old m o .parent) ∙ p) in
-      let r = D .at-old h (hidden-old N N′ n x c first pages next D h (g .0)) in
-      (
+      let r = D .at-old h (hidden-old N N′ n x c first pages next D h (g .0)) in (
         hidden-kept N N′ n x c first pages next D h (g .0),
         ⊎-elim
-        (λ y. inl (r .left .kept (λ z. o .not-n (omega arith)) ∙ y))
-        (λ y. inr (r .right .kept (λ z. o .not-n (omega arith)) ∙ y))
-        (g .1),
+            (λ y. inl (r .left .kept (λ z. o .not-n (omega arith)) ∙ y))
+            (λ y. inr (r .right .kept (λ z. o .not-n (omega arith)) ∙ y))
+            (g .1),
       )
 
   -- chains

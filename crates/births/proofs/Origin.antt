@@ -2,17 +2,15 @@
 use mathlib.Core.Path.{_≡_, refl, sym, ap, _∙_, subst}
 use mathlib.Core.Bool.{false}
 use mathlib.Core.List.{List}
-use mathlib.Core.Logic.{_⊎_, inl, inr}
-use Prim.Native.Nat.{ℕ, _+_, _-_, _*_, _≤_, _<_}
+use Prim.Native.Nat.{ℕ, _+_, _≤_, _<_}
 use native.Mathlib.Omega.{arith}
-use lib.ListN.{length}
 use Rattle.logic.specs.Below.{sumBelow}
 use Rattle.logic.proofs.Means.{equal, split}
 use Rattle.entry.specs.declared.PageState.{PageState}
 use Rattle.node.specs.declared.Node.{Node}
 use Rattle.node.specs.Node.{freeNode, originNode, leafOf}
 use Rattle.tables.specs.Tables.{nodeOf, mappingOf}
-use Rattle.sound.specs.Facts.{Live, Hidden, Leaf, ChildOf, Names, Ends, Tree, Holds, Entries, Mappings}
+use Rattle.sound.specs.Facts.{Live, Hidden, Leaf, Names, Ends, Tree, Holds, Entries, Mappings}
 use Rattle.sound.specs.Facts.Ends.{none, up}
 use Rattle.soundness.proofs.Sums.{sum-same}
 

@@ -2,7 +2,7 @@
 use mathlib.Core.Path.{_≡_, refl}
 use mathlib.Core.Bool.{Bool, true, false, _&&_}
 use mathlib.Core.List.{List}
-use Prim.Native.Nat.{ℕ, _+_, _≤_, _<_}
+use Prim.Native.Nat.{ℕ, _+_}
 use lib.Dec.{leb, ltb}
 use borrow.Author.Tests.{leb-true}
 use Rattle.logic.specs.Pick.{pick}
@@ -72,7 +72,7 @@ module _ (L : ℕ) (p : Pool) (S : Sound L p) where
             list = append (p .mappings) n first count .mappings;
             same = refl;
             listing = append-listing (p .nodes) (p .mappings) ok n first count leaf (leb-true 1 count (and-left (leb 1 count) (leb (first + count) 64) t))
-            (leb-true (first + count) 64 (and-right (leb 1 count) (leb (first + count) 64) t));
+                (leb-true (first + count) 64 (and-right (leb 1 count) (leb (first + count) 64) t));
           }
       by false t = unlisted
 

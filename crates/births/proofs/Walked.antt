@@ -1,6 +1,6 @@
 -- Walks after a birth: the hidden node x stands where the object n stood and has its entries, and both leaves below it read what n read.
 -- Over functions. Assumes nothing.
-use mathlib.Core.Path.{_≡_, refl, sym, _∙_}
+use mathlib.Core.Path.{_≡_, sym, _∙_}
 use mathlib.Core.Bool.{true}
 use Prim.Native.Nat.{ℕ, _+_, _<_}
 use Rattle.logic.specs.declared.Found.{Found}

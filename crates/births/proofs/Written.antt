@@ -1,8 +1,8 @@
 -- The node table as create_child writes it: child, hidden node, its parent, the object. Assumes nothing.
-use mathlib.Core.Path.{_≡_, refl, sym, ap, _∙_}
-use mathlib.Core.Bool.{Bool, true, false, _&&_, not}
+use mathlib.Core.Path.{_≡_, sym, ap, _∙_}
+use mathlib.Core.Bool.{Bool, true, false, not}
 use mathlib.Core.List.{List}
-use Prim.Native.Nat.{ℕ, _+_, _-_, _*_, _≤_, _<_, min}
+use Prim.Native.Nat.{ℕ, _+_, _-_, _≤_, _<_, min}
 use native.Mathlib.Omega.{arith}
 use lib.Dec.{eqb}
 use lib.ListN.{length}
@@ -16,53 +16,8 @@ use Rattle.sound.specs.Facts.{Live, Hidden, Leaf, Tree}
 use Rattle.soundness.proofs.Records.{node-out}
 use Rattle.child.specs.Child.{relinked, bornNodes}
 use Rattle.births.proofs.Words.{node-length, node-same, node-away}
-use Rattle.births.proofs.Cloned.{Old, Moves, Relinks, Cloned, aboveNode, underNode, childNode, leaf-live, leaf-seen}
-
--- a parent's record, in which its link to n becomes one to x
-abbrev movedNode : Node → ℕ → ℕ → Node
-movedNode r n x =
-    nodeBy (r .kind) (r .parent) (pick (eqb (r .left) (n + 1)) (x + 1) (r .left))
-    (pick (not (eqb (r .left) (n + 1)) && eqb (r .right) (n + 1)) (x + 1) (r .right)) (r .«parent_offset») (r .«parent_limit») (r .size) (r .owner)
-    (r .«cache_policy») (r .«pin_count»)
-
-relinks-moved : (n x : ℕ) (r : Node) → (r .left ≡ r .right → ⊥) → Relinks n x r (movedNode r n x)
-relinks-moved n x r d =
-    record {
-      kind = refl;
-      parent = refl;
-      start = refl;
-      limit = refl;
-      size = refl;
-      owner = refl;
-      policy = refl;
-      pins = refl;
-      left = record { moved = λ e. rw (eq-eqb (r .left) (n + 1) e); kept = λ ne. rw (ne-eqb (r .left) (n + 1) ne) };
-      right = record {
-        moved = λ e. rw (ne-eqb (r .left) (n + 1) (λ z. d (z ∙ sym e)), eq-eqb (r .right) (n + 1) e);
-        kept = λ ne. rw (ne-eqb (r .right) (n + 1) ne) (by (not (eqb (r .left) (n + 1))));
-      };
-      same = λ a b. rw (ne-eqb (r .left) (n + 1) a, ne-eqb (r .right) (n + 1) b);
-    }
-  where
-    by : (b : Bool) → pick (b && false) (x + 1) (r .right) ≡ r .right
-    by true = refl
-    by false = refl
-
-relinks-same : (n x : ℕ) (r : Node) → (r .left ≡ n + 1 → ⊥) → (r .right ≡ n + 1 → ⊥) → Relinks n x r r
-relinks-same n x r a b =
-    record {
-      kind = refl;
-      parent = refl;
-      start = refl;
-      limit = refl;
-      size = refl;
-      owner = refl;
-      policy = refl;
-      pins = refl;
-      left = record { moved = λ e. absurd (a e); kept = λ ne. refl };
-      right = record { moved = λ e. absurd (b e); kept = λ ne. refl };
-      same = λ c d. refl;
-    }
+use Rattle.births.proofs.Cloned.{Old, Relinks, Cloned, aboveNode, underNode, childNode, leaf-live}
+use Rattle.births.proofs.Relinked.{movedNode, relinks-moved, relinks-same}
 
 -- what create_child was granted
 pub record Granted (N : List ℕ) (n x c first pages : ℕ) : Type 0 where

@@ -1,12 +1,11 @@
 -- What a call that gives birth to an object leaves.
 use mathlib.Core.Path.{_≡_}
-use mathlib.Core.Bool.{true}
 use Prim.Native.Nat.{ℕ}
 use Rattle.tables.specs.Pool.{Pool}
 use Rattle.tables.specs.Tables.{nodeOf}
 use Rattle.pool.specs.declared.answer.Answer.{Answer}
 use Rattle.pool.specs.declared.answer.Answer.the-variants.{Done, Refused}
-use Rattle.sound.specs.Facts.{Leaf, Sound}
+use Rattle.sound.specs.Facts.{Leaf}
 use Rattle.isolation.specs.Private.{Private}
 use Rattle.births.specs.Arrays.{blankArray, cloneArray}
 
