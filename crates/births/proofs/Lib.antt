@@ -1,3 +1,4 @@
+pub mod Laws
 pub mod Words
 pub mod First
 pub mod Fresh

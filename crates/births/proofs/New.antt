@@ -7,7 +7,7 @@ use native.Mathlib.Omega.{arith}
 use lib.Dec.{leb}
 use lib.ListN.{getD, set, length-set}
 use lib.Seq.{getD-set-same}
-use borrow.Author.Tests.{eq-eqb, ne-eqb, leb-true}
+use borrow.Author.Tests.{leb-true}
 use Rattle.logic.specs.Pick.{pick}
 use Rattle.logic.specs.declared.Found.{Found}
 use Rattle.logic.specs.declared.Found.the-variants.{At, Nothing}
@@ -29,9 +29,11 @@ use Rattle.isolation.proofs.Wood.{asked}
 use Rattle.isolation.proofs.Look.{ground}
 use Rattle.births.specs.Arrays.{blankArray}
 use Rattle.births.specs.Births.{Gave, BlankBorn}
+use Rattle.births.proofs.Laws.{blank-new, blank-other}
 use Rattle.births.proofs.Words.{node-length, node-same, node-away}
 use Rattle.births.proofs.First.{Free, found-free}
-use Rattle.births.proofs.Origin.{Sprung, hidden-not, parent-old, new-tree, no-entry, new-entries, new-mappings}
+use Rattle.births.proofs.Cloned.{leaf-live}
+use Rattle.births.proofs.Origin.{live-not, Sprung, hidden-not, parent-old, new-tree, no-entry, new-entries, new-mappings}
 
 empty-by : (y : Slot) → ((s : PageState) → y ≡ Held s → ⊥) → y ≡ Empty
 empty-by Empty f = refl
@@ -108,18 +110,16 @@ module _ (L : ℕ) (p : Pool) (size i : ℕ) (small : size ≤ 64) (more : getD 
     sees E n j x ne (above h d) = above h (walk ne d)
 
     shows-new : (j : ℕ) → Shows L left i j (blankArray A i i j)
-    unfolding blankArray
     shows-new j =
         record {
           source = Nothing;
           view = above (empty-by (slotAt (p .pages) i j) (λ e h. no-entry N N′ next i size s (Q .sound .tree) (p .pages) (p .used) (Q .sound .entries) i j e h refl)) (none {n = i} {p = j} (rw (s .at-new)) refl);
-          bytes = λ k h. rw (eq-eqb i i refl);
+          bytes = λ k h. sym (blank-new A i j k);
         }
 
     shows-old : (l j : ℕ) → (l ≡ i → ⊥) → Shows L p l j (A l j) → Shows L left l j (blankArray A i l j)
-    unfolding blankArray
     shows-old l j ne v =
-        record { source = v .source; view = sees (slotAt (p .pages)) l j (v .source) ne (v .view); bytes = λ k h. rw (ne-eqb l i ne) (v .bytes k h) }
+        record { source = v .source; view = sees (slotAt (p .pages)) l j (v .source) ne (v .view); bytes = λ k h. v .bytes k h ∙ sym (blank-other A i l j k ne) }
 
     pub leaf-born : BlankBorn L A p size i left
     leaf-born =
@@ -127,6 +127,8 @@ module _ (L : ℕ) (p : Pool) (size i : ℕ) (small : size ≤ 64) (more : getD 
           free = f .kind;
           leaf = rw (s .at-new);
           size = rw (s .at-new);
+          others = λ l ne. rw (s .at-old l ne);
+          sizes = λ l f. rw (s .at-old l (live-not N N′ next i size s (Q .sound .tree) l (leaf-live N l f)));
           private = record {
             sound = leaf-sound (Q .sound);
             windows = windows;

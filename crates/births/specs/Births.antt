@@ -1,6 +1,7 @@
 -- What a call that gives birth to an object leaves.
 use mathlib.Core.Path.{_≡_}
 use Prim.Native.Nat.{ℕ}
+use Rattle.node.specs.Node.{leafOf}
 use Rattle.tables.specs.Pool.{Pool}
 use Rattle.tables.specs.Tables.{nodeOf}
 use Rattle.pool.specs.declared.answer.Answer.{Answer}
@@ -14,11 +15,13 @@ abbrev pub Gave : Pool → (ℕ → Pool → Type 0) → Answer → Pool → Typ
 Gave p Q (Done i) q = Q i q
 Gave p Q (Refused r) q = q ≡ p
 
--- object i of so many pages, which was no live node, in a pool with the arrays A
+-- object i of so many pages, which was no live node; the other objects are those of before, with their sizes; the arrays are A
 pub record Newborn (L : ℕ) (A : ℕ → ℕ → ℕ → ℕ) (p : Pool) (pages i : ℕ) (q : Pool) : Type 0 where
   pub free : nodeOf (p .nodes) i .kind ≡ 0
   pub leaf : Leaf (q .nodes) i
   pub size : nodeOf (q .nodes) i .size ≡ pages
+  pub others : (l : ℕ) → (l ≡ i → ⊥) → leafOf (nodeOf (q .nodes) l) ≡ leafOf (nodeOf (p .nodes) l)
+  pub sizes : (l : ℕ) → Leaf (p .nodes) l → nodeOf (q .nodes) l .size ≡ nodeOf (p .nodes) l .size
   pub private : Private L A q
 
 abbrev pub BlankBorn : ℕ → (ℕ → ℕ → ℕ → ℕ) → Pool → ℕ → ℕ → Pool → Type 0
