@@ -74,6 +74,14 @@ module _ (L : ℕ) (p : Pool) (list : List ℕ) (n first pages : ℕ) (leaf : Le
   pub numbered-facts : Sound L p → Sound L (numbered p list n first pages .pool)
   numbered-facts S = numbered-by L p list S n first pages leaf fits (λ s. Sound L (s .pool)) (λ r. S) (birth-facts S)
 
+  birth-left : Sound L p → (c x : ℕ) → getD (p .head) 0 0 ≤ 16777215 → Granted (p .nodes) n x c first pages → Gave p (λ i q. Sound L q) (born p list n c x first pages .answer) (born p list n c x first pages .pool)
+  unfolding born
+  birth-left S c x l g = born-sound L p n x c first pages g unpinned l S
+
+  -- refused, it leaves the pool as it was
+  pub numbered-left : Sound L p → Gave p (λ i q. Sound L q) (numbered p list n first pages .answer) (numbered p list n first pages .pool)
+  numbered-left S = numbered-by L p list S n first pages leaf fits (λ s. Gave p (λ i q. Sound L q) (s .answer) (s .pool)) (λ r. refl) (birth-left S)
+
   module _ (A : ℕ → ℕ → ℕ → ℕ) where
     abbrev Goes : Said → Type 0
     Goes s = Gave p (CloneBorn L A p n first pages) (s .answer) (s .pool)

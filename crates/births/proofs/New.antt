@@ -5,7 +5,7 @@ use mathlib.Core.List.{List}
 use Prim.Native.Nat.{ℕ, _+_, _≤_}
 use native.Mathlib.Omega.{arith}
 use lib.Dec.{leb}
-use lib.ListN.{getD, set, length-set}
+use lib.ListN.{length, getD, set, length-set}
 use lib.Seq.{getD-set-same}
 use borrow.Author.Tests.{leb-true}
 use Rattle.logic.specs.Pick.{pick}
@@ -141,33 +141,32 @@ module _ (L : ℕ) (p : Pool) (size i : ℕ) (small : size ≤ 64) (more : getD 
 
 -- the step of new
 
-module _ (L : ℕ) (p : Pool) (size : ℕ) (small : size ≤ 64) where
-  leaf-facts : Sound L p → getD (p .head) 0 0 ≤ 16777215 → (f : Found) → freeNodeIn (p .nodes) ≡ f → Sound L (leafAt p size f .pool)
+module _ (p : Pool) (size : ℕ) (len : length (p .nodes) ≡ 1024) (B : Call → Type 0) (stay : B (refused NoNode p))
+    (birth : (i : ℕ) → getD (p .head) 0 0 ≤ 16777215 → Free (p .nodes) 0 i → B (leafAt p size (At i))) where
+  leaf-by : getD (p .head) 0 0 ≤ 16777215 → (f : Found) → freeNodeIn (p .nodes) ≡ f → B (leafAt p size f)
   unfolding leafAt
-  leaf-facts S l (At i) e = leaf-sound L p size i small l (found-free (p .nodes) (S .lengths .nodes) i e) S
-  leaf-facts S l Nothing e = S
+  leaf-by l (At i) e = birth i l (found-free (p .nodes) len i e)
+  leaf-by l Nothing e = stay
 
-  pub new-facts : Sound L p → Sound L (newLeaf p size .pool)
+  -- what holds of the refusal and of each birth holds of it
+  new-by : B (newLeaf p size)
   unfolding newLeaf
-  new-facts S = by (leb (getD (p .head) 0 0) 16777215) refl
+  new-by = by (leb (getD (p .head) 0 0) 16777215) refl
     where
-      by : (b : Bool) → leb (getD (p .head) 0 0) 16777215 ≡ b → Sound L (pick b (leafAt p size (freeNodeIn (p .nodes))) (refused NoNode p) .pool)
-      by true t = leaf-facts S (leb-true (getD (p .head) 0 0) 16777215 t) (freeNodeIn (p .nodes)) refl
-      by false t = S
+      by : (b : Bool) → leb (getD (p .head) 0 0) 16777215 ≡ b → B (pick b (leafAt p size (freeNodeIn (p .nodes))) (refused NoNode p))
+      by true t = leaf-by (leb-true (getD (p .head) 0 0) 16777215 t) (freeNodeIn (p .nodes)) refl
+      by false t = stay
 
-  module _ (A : ℕ → ℕ → ℕ → ℕ) where
-    abbrev Goes : Call → Type 0
-    Goes c = Gave p (BlankBorn L A p size) (c .answer) (c .pool)
+module _ (L : ℕ) (p : Pool) (size : ℕ) (small : size ≤ 64) where
+  pub new-facts : Sound L p → Sound L (newLeaf p size .pool)
+  unfolding leafAt
+  new-facts S = new-by p size (S .lengths .nodes) (λ c. Sound L (c .pool)) S (λ i l f. leaf-sound L p size i small l f S)
 
-    leaf-gave : Private L A p → getD (p .head) 0 0 ≤ 16777215 → (f : Found) → freeNodeIn (p .nodes) ≡ f → Goes (leafAt p size f)
-    unfolding leafAt
-    leaf-gave Q l (At i) e = leaf-born L p size i small l (found-free (p .nodes) (Q .sound .lengths .nodes) i e) A Q
-    leaf-gave Q l Nothing e = refl
+  -- refused, it leaves the pool as it was
+  pub new-left : Sound L p → Gave p (λ i q. Sound L q) (newLeaf p size .answer) (newLeaf p size .pool)
+  unfolding leafAt
+  new-left S = new-by p size (S .lengths .nodes) (λ c. Gave p (λ i q. Sound L q) (c .answer) (c .pool)) refl (λ i l f. leaf-sound L p size i small l f S)
 
-    pub new-gave : Private L A p → Gave p (BlankBorn L A p size) (newLeaf p size .answer) (newLeaf p size .pool)
-    unfolding newLeaf
-    new-gave Q = by (leb (getD (p .head) 0 0) 16777215) refl
-      where
-        by : (b : Bool) → leb (getD (p .head) 0 0) 16777215 ≡ b → Goes (pick b (leafAt p size (freeNodeIn (p .nodes))) (refused NoNode p))
-        by true t = leaf-gave Q (leb-true (getD (p .head) 0 0) 16777215 t) (freeNodeIn (p .nodes)) refl
-        by false t = refl
+  pub new-gave : (A : ℕ → ℕ → ℕ → ℕ) → Private L A p → Gave p (BlankBorn L A p size) (newLeaf p size .answer) (newLeaf p size .pool)
+  unfolding leafAt
+  new-gave A Q = new-by p size (Q .sound .lengths .nodes) (λ c. Gave p (BlankBorn L A p size) (c .answer) (c .pool)) refl (λ i l f. leaf-born L p size i small l f A Q)
