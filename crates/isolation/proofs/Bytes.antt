@@ -23,12 +23,12 @@ frame-room L F f l = let m = mul-le-mul-right {m = suc f} {n = F} L (omega arith
 
 -- zeros
 
-zeroed-outside : (d : List ℕ) (a n i : ℕ) → ((k : ℕ) → k < n → i ≡ a + k → ⊥) → getD (zeroed d a n) i 0 ≡ getD d i 0
+pub zeroed-outside : (d : List ℕ) (a n i : ℕ) → ((k : ℕ) → k < n → i ≡ a + k → ⊥) → getD (zeroed d a n) i 0 ≡ getD d i 0
 unfolding zeroed
 zeroed-outside d a zero i h = refl
 zeroed-outside d a (suc n) i h = getD-set-other (zeroed d a n) (a + n) i 0 0 (h n (omega arith)) ∙ zeroed-outside d a n i (λ k l. h k (omega arith))
 
-zeroed-inside : (d : List ℕ) (a n j : ℕ) → j < n → a + n ≤ length d → getD (zeroed d a n) (a + j) 0 ≡ 0
+pub zeroed-inside : (d : List ℕ) (a n j : ℕ) → j < n → a + n ≤ length d → getD (zeroed d a n) (a + j) 0 ≡ 0
 unfolding zeroed
 zeroed-inside d a zero j h l = absurd (omega arith)
 zeroed-inside d a (suc n) j h l =
@@ -38,7 +38,7 @@ zeroed-inside d a (suc n) j h l =
 
 -- bytes of another list
 
-copied-inside : (d : List ℕ) (a : ℕ) (s : List ℕ) (b n j : ℕ) → j < n → a + n ≤ length d → getD (copied d a s b n) (a + j) 0 ≡ getD s (b + j) 0
+pub copied-inside : (d : List ℕ) (a : ℕ) (s : List ℕ) (b n j : ℕ) → j < n → a + n ≤ length d → getD (copied d a s b n) (a + j) 0 ≡ getD s (b + j) 0
 unfolding copied
 copied-inside d a s b zero j h l = absurd (omega arith)
 copied-inside d a s b (suc n) j h l =

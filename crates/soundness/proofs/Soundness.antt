@@ -12,7 +12,7 @@ use Rattle.soundness.proofs.Frames.{entries-mean}
 use Rattle.soundness.proofs.Mapped.{mappings-mean}
 
 module _ (L : ℕ) (p : Pool) where
-  lengths-mean : Means (lengthsOk L p) (Lengths L p)
+  pub lengths-mean : Means (lengthsOk L p) (Lengths L p)
   unfolding lengthsOk
   lengths-mean =
       says
