@@ -13,7 +13,8 @@ use Rattle.tables.specs.Pool.{Pool, poolOf}
 use Rattle.tables.specs.Tables.{nodeOf, slotAt}
 use Rattle.sound.specs.Facts.{Tree, Sound}
 use Rattle.soundness.proofs.Records.{node-out}
-use Rattle.child.specs.Child.{bornNodes, rowMoved}
+use Rattle.child.specs.Child.{bornNodes}
+use Rattle.tables.specs.Tables.{rowMoved}
 use Rattle.births.proofs.Cloned.{Cloned, leaf-live}
 use Rattle.births.proofs.Growth.{born-tree}
 use Rattle.births.proofs.Handed.{RowMoved, slots-rest, born-entries, born-mappings}

@@ -10,7 +10,7 @@ use Rattle.logic.proofs.Means.{less, split}
 use Rattle.tables.specs.Tables.{entryOf}
 use Rattle.soundness.proofs.Records.{entry-is, entry-past}
 use Rattle.isolation.proofs.Bytes.{zeroed-outside, zeroed-inside, copied-inside}
-use Rattle.child.specs.Child.{rowMoved}
+use Rattle.tables.specs.Tables.{rowMoved}
 use Rattle.births.proofs.Handed.{RowMoved}
 
 module _ (P : List ℕ) (n x : ℕ) (len : length P ≡ 4096) (n-low : n < 64) (x-low : x < 64) (ne : x ≡ n → ⊥) where

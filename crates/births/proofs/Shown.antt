@@ -10,7 +10,8 @@ use Rattle.node.specs.Node.{leafOf}
 use Rattle.tables.specs.Pool.{Pool}
 use Rattle.tables.specs.Tables.{nodeOf, slotAt}
 use Rattle.sound.specs.Facts.{Leaf, Tree, Sound}
-use Rattle.child.specs.Child.{bornNodes, rowMoved}
+use Rattle.child.specs.Child.{bornNodes}
+use Rattle.tables.specs.Tables.{rowMoved}
 use Rattle.isolation.specs.Private.{linksOf, Shows, Private}
 use Rattle.isolation.proofs.Look.{ground}
 use Rattle.births.specs.Arrays.{cloneArray}
