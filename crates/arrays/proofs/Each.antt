@@ -1,0 +1,23 @@
+-- What holds before each page and what it leads to hold of a whole run of pages. Assumes nothing.
+use mathlib.Core.Path.{_≡_}
+use Prim.Native.Nat.{ℕ, zero, suc}
+use Rattle.pool.specs.declared.answer.Against.{Against}
+use Rattle.pool.specs.declared.answer.Against.the-variants.{Why, Nothing as Fine}
+use Rattle.ranges.specs.Each.{Part, partOf, onward, each}
+
+-- before holds with so many pages to come; after holds at the end, or where a page was refused
+module _ {C S : Type 0} (step : C → S → Part C S) (before : ℕ → C → S → Type 0) (after : Part C S → Type 0) where
+  abbrev pub Goes : ℕ → Against → Part C S → Type 0
+  Goes k (Why r) p = after p
+  Goes k Fine p = before k (p .rest) (p .state)
+
+  goes-by : (k : ℕ) → ((c : C) (s : S) → before k c s → after (each step k c s)) → (a : Against) (p : Part C S) → Goes k a p → after (onward a p (each step k))
+  unfolding onward
+  goes-by k ih (Why r) p g = g
+  goes-by k ih Fine p g = ih (p .rest) (p .state) g
+
+  pub each-keeps : ((c : C) (s : S) → before 0 c s → after (partOf Fine c s)) → ((k : ℕ) (c : C) (s : S) → before (suc k) c s → Goes k (step c s .why) (step c s))
+      → (k : ℕ) (c : C) (s : S) → before k c s → after (each step k c s)
+  unfolding each
+  each-keeps ends turn zero c s b = ends c s b
+  each-keeps ends turn (suc k) c s b = goes-by k (each-keeps ends turn k) (step c s .why) (step c s) (turn k c s b)
