@@ -1,2 +1,5 @@
 pub mod Each
 pub mod Blocks
+pub mod Spent
+pub mod Close
+pub mod Commit
