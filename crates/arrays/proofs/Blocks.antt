@@ -3,7 +3,7 @@ use mathlib.Core.Path.{_≡_, refl, sym, ap, _∙_}
 use mathlib.Core.Bool.{Bool, true, false}
 use Prim.Native.Nat.{ℕ, suc, _+_, _-_, _*_, _/_, _%_, _≤_, _<_}
 use native.Mathlib.Omega.{arith}
-use native.Mathlib.Nat.{mod-lt, div-add-mod', suc-mul, mul-le-mul-right, le-of-mul-le-mul-right}
+use native.Mathlib.Nat.{mod-lt, div-add-mod', suc-mul, mul-le-mul-right, lt-of-mul-lt-mul-right}
 use lib.Dec.{eqb, leb}
 use lib.Arith.{digits-div, digits-mod}
 use borrow.Author.Tests.{le-leb, lt-leb, eqb-true, eqb-false, eq-eqb, ne-eqb}
@@ -149,3 +149,9 @@ module _ (L : ℕ) (one : 1 ≤ L) where
   -- a range from which a block comes is not empty
   pub count-more : (x e k : ℕ) → countOf L (iterOf x e) ≡ suc k → x < e
   count-more x e k c = split (less x e) (λ l. l) (λ no. let z = count-none x e (omega arith) in absurd (omega arith))
+
+-- the block's page lies inside
+pub block-inside : (L offset len size : ℕ) (it : BlockIter) (b : BlockRange) (r : BlockIter) → First L it b r → it .begin < it .end → it .end ≡ offset + len → offset + len ≤ size * L → b .block < size
+block-inside L offset len size it b r f l e h =
+    let s = f .starts in
+    lt-of-mul-lt-mul-right L (omega arith)

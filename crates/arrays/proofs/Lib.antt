@@ -5,3 +5,5 @@ pub mod Close
 pub mod Commit
 pub mod Bytes
 pub mod Write
+pub mod Fill
+pub mod Read

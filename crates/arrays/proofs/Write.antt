@@ -5,7 +5,7 @@ use mathlib.Core.List.{List}
 use mathlib.Core.Logic.{_⊎_}
 use Prim.Native.Nat.{ℕ, zero, suc, _+_, _-_, _*_, _/_, _≤_, _<_}
 use native.Mathlib.Omega.{arith}
-use native.Mathlib.Nat.{div-mul-le-self, suc-mul, lt-of-mul-lt-mul-right}
+use native.Mathlib.Nat.{div-mul-le-self, suc-mul}
 use lib.Arith.{digits-div}
 use lib.ListN.{length}
 use Rattle.logic.proofs.Means.{less, split}
@@ -35,17 +35,11 @@ use Rattle.isolation.proofs.Put.{put-keeps}
 use Rattle.arrays.specs.Arrays.{writeArray, touched}
 use Rattle.arrays.specs.Outcomes.{Writes}
 use Rattle.arrays.proofs.Each.{Goes, each-keeps}
-use Rattle.arrays.proofs.Blocks.{First, Cut, cut, count-more}
+use Rattle.arrays.proofs.Blocks.{First, Cut, cut, count-more, block-inside}
 use Rattle.arrays.proofs.Bytes.{private-alike, write-none, write-block}
 use Rattle.arrays.proofs.Spent.{Spent, spent-none, spent-more, spent-out, Ending}
 use Rattle.arrays.proofs.Spent.Ending.{all, out}
 use Rattle.arrays.proofs.Close.{closes}
-
--- the block's page lies inside
-pub block-inside : (L offset len size : ℕ) (it : BlockIter) (b : BlockRange) (r : BlockIter) → First L it b r → it .begin < it .end → it .end ≡ offset + len → offset + len ≤ size * L → b .block < size
-block-inside L offset len size it b r f l e h =
-    let s = f .starts in
-    lt-of-mul-lt-mul-right L (omega arith)
 
 module _ (L : ℕ) (one : 1 ≤ L) (A : ℕ → ℕ → ℕ → ℕ) (p : Pool) (n offset : ℕ) (bytes : List ℕ) (leaf : Leaf (p .nodes) n)
     (inside : offset + length bytes ≤ nodeOf (p .nodes) n .size * L) where
