@@ -7,3 +7,5 @@ pub mod Bytes
 pub mod Write
 pub mod Fill
 pub mod Read
+pub mod Called
+pub mod Calls
