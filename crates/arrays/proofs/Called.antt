@@ -32,9 +32,9 @@ abbrev pub Tests : Against → Type 0 → Type 0
 Tests (Why r) H = ByTests r
 Tests Fine H = H
 
-tests-pick : (H : Type 0) (b : Bool) (x y : Against) → (b ≡ true → Tests x H) → Tests y H → Tests (pick b x y) H
+pub tests-pick : (H : Type 0) (b : Bool) (x y : Against) → (b ≡ true → Tests x H) → (b ≡ false → Tests y H) → Tests (pick b x y) H
 tests-pick H true x y f g = f refl
-tests-pick H false x y f g = g
+tests-pick H false x y f g = g refl
 
 module _ (L : ℕ) (N : List ℕ) (n offset len : ℕ) where
   inside-by : insideOf L N n offset len ≡ true → offset + len ≤ nodeOf N n .size * L
@@ -46,15 +46,15 @@ module _ (L : ℕ) (N : List ℕ) (n offset len : ℕ) where
 
   pub reading-tests : Tests (againstReading L N n offset len) Inside
   unfolding againstReading
-  reading-tests = tests-pick Inside (cachedOf N n) _ _ (λ c. tests-pick Inside (insideOf L N n offset len) _ _ inside-by tt) tt
+  reading-tests = tests-pick Inside (cachedOf N n) _ _ (λ c. tests-pick Inside (insideOf L N n offset len) _ _ inside-by (λ f. tt)) (λ f. tt)
 
   pub writing-tests : (M list : List ℕ) → Tests (againstWriting L N M list n offset len) Inside
   unfolding againstWriting
-  writing-tests M list = tests-pick Inside (cachedOf N n) _ _ (λ c. tests-pick Inside (insideOf L N n offset len) _ _ (λ i. tests-pick Inside (roomOf M list _) _ _ (λ r. inside-by i) tt) tt) tt
+  writing-tests M list = tests-pick Inside (cachedOf N n) _ _ (λ c. tests-pick Inside (insideOf L N n offset len) _ _ (λ i. tests-pick Inside (roomOf M list _) _ _ (λ r. inside-by i) (λ f. tt)) (λ f. tt)) (λ f. tt)
 
   pub committing-tests : (M list : List ℕ) → Tests (againstCommitting L N M list n offset len) Inside
   unfolding againstCommitting
-  committing-tests M list = tests-pick Inside (insideOf L N n offset len) _ _ (λ i. tests-pick Inside (roomOf M list _) _ _ (λ r. inside-by i) tt) tt
+  committing-tests M list = tests-pick Inside (insideOf L N n offset len) _ _ (λ i. tests-pick Inside (roomOf M list _) _ _ (λ r. inside-by i) (λ f. tt)) (λ f. tt)
 
 -- the object's own node
 

@@ -9,3 +9,5 @@ pub mod Fill
 pub mod Read
 pub mod Called
 pub mod Calls
+pub mod Page
+pub mod Exact
