@@ -11,3 +11,4 @@ pub mod Called
 pub mod Calls
 pub mod Page
 pub mod Exact
+pub mod Filled
