@@ -21,3 +21,13 @@ module _ {C S : Type 0} (step : C → S → Part C S) (before : ℕ → C → S 
   unfolding each
   each-keeps ends turn zero c s b = ends c s b
   each-keeps ends turn (suc k) c s b = goes-by k (each-keeps ends turn k) (step c s .why) (step c s) (turn k c s b)
+
+-- what each page keeps, refused or not, the run keeps
+module _ {C S : Type 0} (step : C → S → Part C S) (holds : C → S → Type 0) where
+  holds-by : (k : ℕ) (a : Against) (p : Part C S) → holds (p .rest) (p .state) → Goes step (λ k. holds) (λ p. holds (p .rest) (p .state)) k a p
+  holds-by k (Why r) p h = h
+  holds-by k Fine p h = h
+
+  pub each-holds : ((c : C) (s : S) → holds c s → holds (step c s .rest) (step c s .state)) → (k : ℕ) (c : C) (s : S) → holds c s → holds (each step k c s .rest) (each step k c s .state)
+  each-holds turn k c s h =
+      each-keeps step (λ k. holds) (λ p. holds (p .rest) (p .state)) (λ c s h. h) (λ k c s h. holds-by k (step c s .why) (step c s) (turn c s h)) k c s h

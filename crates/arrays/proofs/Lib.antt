@@ -12,3 +12,6 @@ pub mod Calls
 pub mod Page
 pub mod Exact
 pub mod Filled
+pub mod Base
+pub mod Keep
+pub mod Sound
