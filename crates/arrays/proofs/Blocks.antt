@@ -32,12 +32,17 @@ pub record Cut (L : ℕ) (it : BlockIter) : Type 0 where
   pub next : nextOf L it ≡ Block block rest
   pub first : First L it block rest
 
-module _ (L : ℕ) (one : 1 ≤ L) where
-  -- a page's bytes, and the pages up to an end
-  pub count-none : (x e : ℕ) → e ≤ x → countOf L (iterOf x e) ≡ 0
-  unfolding countOf
-  count-none x e h = rw (le-leb e x h)
+-- an empty range has no blocks, and a range that has some is not empty
 
+pub count-none : (L x e : ℕ) → e ≤ x → countOf L (iterOf x e) ≡ 0
+unfolding countOf
+count-none L x e h = rw (le-leb e x h)
+
+pub count-more : (L x e k : ℕ) → countOf L (iterOf x e) ≡ suc k → x < e
+count-more L x e k c = split (less x e) (λ l. l) (λ no. let z = count-none L x e (omega arith) in absurd (omega arith))
+
+module _ (L : ℕ) (one : 1 ≤ L) where
+  -- the pages up to an end
   count-some : (x e : ℕ) → x < e → countOf L (iterOf x e) ≡ pagesOf L e - x / L
   unfolding countOf
   count-some x e h = rw (lt-leb e x h)
@@ -76,7 +81,7 @@ module _ (L : ℕ) (one : 1 ≤ L) where
           whole = λ l. absurd (omega arith);
           count =
               let c = count-some x e h in
-              let d = count-none (x + (e % L - x % L)) e (omega arith) in
+              let d = count-none L (x + (e % L - x % L)) e (omega arith) in
               let o = pages-odd e (λ z. omega arith) in
               omega arith;
         }
@@ -123,7 +128,7 @@ module _ (L : ℕ) (one : 1 ≤ L) where
             split (less (x + (L - x % L)) e)
             (λ before. let d = count-some (x + (L - x % L)) e before in omega arith)
             (λ past.
-            let d = count-none (x + (L - x % L)) e (omega arith) in
+            let d = count-none L (x + (L - x % L)) e (omega arith) in
             let m = mul-le-mul-right {m = suc (x / L)} {n = e / L} L (omega arith) in
             let z : e ≡ suc (x / L) * L + 0 = omega arith in
             let v : e / L ≡ suc (x / L) = ap (λ (z : ℕ). z / L) z ∙ digits-div (suc (x / L)) one in
@@ -146,12 +151,21 @@ module _ (L : ℕ) (one : 1 ≤ L) where
         first = first-by (it .begin) (it .end) h (eqb (it .begin / L) (it .end / L)) refl;
       }
 
-  -- a range from which a block comes is not empty
-  pub count-more : (x e k : ℕ) → countOf L (iterOf x e) ≡ suc k → x < e
-  count-more x e k c = split (less x e) (λ l. l) (λ no. let z = count-none x e (omega arith) in absurd (omega arith))
-
 -- the block's page lies inside
 pub block-inside : (L offset len size : ℕ) (it : BlockIter) (b : BlockRange) (r : BlockIter) → First L it b r → it .begin < it .end → it .end ≡ offset + len → offset + len ≤ size * L → b .block < size
 block-inside L offset len size it b r f l e h =
     let s = f .starts in
     lt-of-mul-lt-mul-right L (omega arith)
+
+-- a page that holds some byte has some length
+pub some-length : (L size x e : ℕ) → x < e → e ≤ size * L → 1 ≤ L
+some-length L size x e l h =
+    split (less 0 L) (λ k. omega arith)
+    (λ never. let z : L ≡ 0 = omega arith in let q : e ≤ size * 0 = rw z at h in absurd (omega arith))
+
+-- a range that has no block left is at its end
+pub count-end : (L size : ℕ) (it : BlockIter) → countOf L it ≡ 0 → it .end ≤ size * L → it .end ≤ it .begin
+count-end L size it c h =
+    split (less (it .begin) (it .end))
+    (λ l. let m = cut L (some-length L size (it .begin) (it .end) l h) it l .first .count in absurd (omega arith))
+    (λ past. omega arith)

@@ -2,7 +2,7 @@
 use mathlib.Core.Path.{_≡_, refl, sym, ap, _∙_}
 use mathlib.Core.Bool.{true}
 use mathlib.Core.List.{List}
-use Prim.Native.Nat.{ℕ, _≤_}
+use Prim.Native.Nat.{ℕ}
 use lib.ListN.{length}
 use Rattle.tables.specs.Pool.{Pool}
 use Rattle.sound.specs.Sound.{sound}
@@ -21,7 +21,7 @@ use Rattle.arrays.proofs.Write.{write-through}
 use Rattle.arrays.proofs.Commit.{commit-through}
 use Rattle.arrays.proofs.Called.{Inside, reading-tests, writing-tests, committing-tests, called}
 
-module _ (L : ℕ) (one : 1 ≤ L) (A : ℕ → ℕ → ℕ → ℕ) (p : Pool) (P : Private L A p) where
+module _ (L : ℕ) (A : ℕ → ℕ → ℕ → ℕ) (p : Pool) (P : Private L A p) where
   is-sound : sound L p ≡ true
   is-sound = facts-sound L p (P .sound)
 
@@ -30,21 +30,21 @@ module _ (L : ℕ) (one : 1 ≤ L) (A : ℕ → ℕ → ℕ → ℕ) (p : Pool) 
   read-called object offset buf =
       called (unfilled p buf) (Reads L A p object offset buf) (Inside L (p .nodes) object offset (length buf)) L p object (λ n. againstReading L (p .nodes) n offset (length buf))
       (λ n. filled p (readRange L (p .nodes) (p .mappings) n offset (readOf (p .pages) (p .used) (p .memory) buf))) is-sound
-      (reading-tests L (p .nodes) object offset (length buf)) (λ leaf inside. read-through L one A p P object offset buf leaf inside)
+      (reading-tests L (p .nodes) object offset (length buf)) (λ leaf inside. read-through L A p P object offset buf leaf inside)
 
   pub write-called : (list : List ℕ) (object offset : ℕ) (bytes : List ℕ) → Called (refusedRange p list) (Writes L A p object offset bytes) (write L p list object offset bytes)
   unfolding writeAt
   write-called list object offset bytes =
       called (refusedRange p list) (Writes L A p object offset bytes) (Inside L (p .nodes) object offset (length bytes)) L p object (λ n. againstWriting L (p .nodes) (p .mappings) list n offset (length bytes))
       (λ n. writeThrough L p list n offset bytes) is-sound
-      (writing-tests L (p .nodes) object offset (length bytes) (p .mappings) list) (λ leaf inside. write-through L one A p P list object offset bytes leaf inside)
+      (writing-tests L (p .nodes) object offset (length bytes) (p .mappings) list) (λ leaf inside. write-through L A p P list object offset bytes leaf inside)
 
   pub commit-called : (list : List ℕ) (object offset len : ℕ) → Called (refusedRange p list) (Commits L A p object offset len) (commit L p list object offset len)
   unfolding commitAt
   commit-called list object offset len =
       called (refusedRange p list) (Commits L A p object offset len) (Inside L (p .nodes) object offset len) L p object (λ n. againstCommitting L (p .nodes) (p .mappings) list n offset len)
       (λ n. commitThrough L p list n offset len) is-sound
-      (committing-tests L (p .nodes) object offset len (p .mappings) list) (λ leaf inside. commit-through L one A p P list object offset len leaf inside)
+      (committing-tests L (p .nodes) object offset len (p .mappings) list) (λ leaf inside. commit-through L A p P list object offset len leaf inside)
 
   -- every call, refused or not
 

@@ -5,8 +5,9 @@ use mathlib.Core.List.{List}
 use mathlib.Core.Logic.{_⊎_, inl, inr, ⊎-elim}
 use Prim.Native.Nat.{ℕ, zero, suc, _+_, _-_, _*_, _/_, _≤_, _<_}
 use native.Mathlib.Omega.{arith}
-use native.Mathlib.Nat.{div-mul-le-self, add-mul, le-of-mul-le-mul-right}
-use Rattle.tables.specs.Pool.{Pool, poolOf}
+use native.Mathlib.Nat.{div-mul-le-self, div-zero, add-mul, le-of-mul-le-mul-right}
+use Rattle.logic.proofs.Means.{less, split}
+use Rattle.tables.specs.Pool.{Pool}
 use Rattle.tables.specs.Tables.{nodeOf}
 use Rattle.notices.specs.Notices.{toldOf}
 use Rattle.lookup.specs.declared.Looked.{Looked}
@@ -77,20 +78,23 @@ module _ (L : ℕ) (A : ℕ → ℕ → ℕ → ℕ) (p : Pool) (n first pages :
       (record { done = 0; here = omega arith; all-pages = omega arith; private = P; spent = s })
 
 -- the pages of a range that lies inside lie inside
-pub pages-inside : (L offset len size : ℕ) → 1 ≤ L → offset + len ≤ size * L → offset / L + len / L ≤ size
-pages-inside L offset len size one h =
+pub pages-inside : (L offset len size : ℕ) → offset + len ≤ size * L → offset / L + len / L ≤ size
+pages-inside L offset len size h =
+    split (less 0 L)
+    (λ one.
     let a = div-mul-le-self offset L in
     let b = div-mul-le-self len L in
     let c = add-mul (offset / L) (len / L) L in
-    le-of-mul-le-mul-right {k = L} (omega arith) one
+    le-of-mul-le-mul-right {k = L} (omega arith) one)
+    (λ never. let z : L ≡ 0 = omega arith in let a = div-zero offset in let b = div-zero len in rw z (omega arith))
 
-module _ (L : ℕ) (one : 1 ≤ L) (A : ℕ → ℕ → ℕ → ℕ) (p : Pool) (P : Private L A p) (list : List ℕ) (n offset len : ℕ) (leaf : Leaf (p .nodes) n)
+module _ (L : ℕ) (A : ℕ → ℕ → ℕ → ℕ) (p : Pool) (P : Private L A p) (list : List ℕ) (n offset len : ℕ) (leaf : Leaf (p .nodes) n)
     (inside : offset + len ≤ nodeOf (p .nodes) n .size * L) where
   pub commit-through : Commits L A p n offset len (commitThrough L p list n offset len)
   unfolding commitThrough committed rangedBy
   commit-through =
       let r = commitRange L (p .nodes) (p .mappings) n (offset / L) (len / L) (workIn p list) in
-      let c = range-commits L A p n (offset / L) (len / L) leaf (pages-inside L offset len (nodeOf (p .nodes) n .size) one inside) (workIn p list) P (spent-none p n (offset / L) (workIn p list) refl refl) in
+      let c = range-commits L A p n (offset / L) (len / L) leaf (pages-inside L offset len (nodeOf (p .nodes) n .size) inside) (workIn p list) P (spent-none p n (offset / L) (workIn p list) refl refl) in
       record {
         private = c .private;
         stays = record { nodes = refl; mappings = refl; head = refl };

@@ -14,4 +14,5 @@ pub mod Exact
 pub mod Filled
 pub mod Base
 pub mod Keep
+pub mod Fits
 pub mod Sound

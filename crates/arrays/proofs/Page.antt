@@ -29,7 +29,7 @@ use Rattle.arrays.specs.Calls.{Called, Frame, ZeroFrame, NoFrame, Page}
 use Rattle.arrays.specs.Calls.Called.{refused, accepted}
 use Rattle.arrays.proofs.Called.{Tests, tests-pick, called}
 
-page-tests : (N M list : List ℕ) (n page : ℕ) (write : Bool) → Tests (pageRefusal N M list n page write) (page < nodeOf N n .size)
+pub page-tests : (N M list : List ℕ) (n page : ℕ) (write : Bool) → Tests (pageRefusal N M list n page write) (page < nodeOf N n .size)
 unfolding pageRefusal
 page-tests N M list n page write =
     let H = page < nodeOf N n .size in

@@ -5,7 +5,6 @@ use mathlib.Core.List.{List, []}
 use Prim.Native.Nat.{ℕ, zero, suc, _+_, _-_, _*_, _/_, _%_, _≤_, _<_}
 use native.Mathlib.Omega.{arith}
 use lib.ListN.{length, getD}
-use Rattle.logic.proofs.Means.{less, split}
 use Rattle.blocks.specs.declared.BlockIter.{BlockIter}
 use Rattle.blocks.specs.declared.BlockRange.{BlockRange}
 use Rattle.blocks.specs.declared.Next.{Next}
@@ -33,14 +32,14 @@ use Rattle.isolation.proofs.Look.{look-goes-on}
 use Rattle.bounds.proofs.Quiet.{read-quiet}
 use Rattle.arrays.specs.Outcomes.{Reads}
 use Rattle.arrays.proofs.Each.{Goes, each-keeps}
-use Rattle.arrays.proofs.Blocks.{First, Cut, cut, count-more, block-inside}
+use Rattle.arrays.proofs.Blocks.{First, Cut, cut, count-more, count-end, some-length, block-inside}
 use Rattle.arrays.proofs.Fill.{Filling, pasted-fills, blank-fills, blank-length}
 
 -- what a read has is what a lookup starts from, with an empty list
 abbrev pub workFor : Read → Work
 workFor s = workOf (s .pages) (s .used) (s .memory) (toldOf [] 0)
 
-module _ (L : ℕ) (one : 1 ≤ L) (A : ℕ → ℕ → ℕ → ℕ) (p : Pool) (n offset size : ℕ) (leaf : Leaf (p .nodes) n) (inside : offset + size ≤ nodeOf (p .nodes) n .size * L) where
+module _ (L : ℕ) (A : ℕ → ℕ → ℕ → ℕ) (p : Pool) (n offset size : ℕ) (leaf : Leaf (p .nodes) n) (inside : offset + size ≤ nodeOf (p .nodes) n .size * L) where
   -- the buffer is filled up to `it`, k pages are to come
   record Before (k : ℕ) (it : BlockIter) (s : Read) : Type 0 where
     from : offset ≤ it .begin
@@ -136,8 +135,9 @@ module _ (L : ℕ) (one : 1 ≤ L) (A : ℕ → ℕ → ℕ → ℕ) (p : Pool) 
   turn : (k : ℕ) (it : BlockIter) (s : Read) → Before (suc k) it s → After-turn k (step it s .why) (step it s)
   unfolding readPage readBy readThrough lookRead
   turn k it s B =
-      let l = count-more L one (it .begin) (it .end) k (B .count) in
-      let c = cut L one it l in
+      let l = count-more L (it .begin) (it .end) k (B .count) in
+      let e = B .end in
+      let c = cut L (some-length L (nodeOf (p .nodes) n .size) (it .begin) (it .end) l (omega arith)) it l in
       let b = c .block in
       subst (λ (x : Next). After-turn k (readBy L (p .nodes) (p .mappings) n offset it s x .why) (readBy L (p .nodes) (p .mappings) n offset it s x)) (sym (c .next))
       (let r = look L 64 (p .nodes) (p .mappings) (workFor s) n (b .block) false n in
@@ -147,20 +147,20 @@ module _ (L : ℕ) (one : 1 ≤ L) (A : ℕ → ℕ → ℕ → ℕ) (p : Pool) 
 
   ends : (it : BlockIter) (s : Read) → Before 0 it s → After (partOf Fine it s)
   ends it s B =
-      let l : it .end ≤ it .begin = split (less (it .begin) (it .end)) (λ l. let c = cut L one it l .first .count in let m = B .count in absurd (omega arith)) (λ no. omega arith) in
       let x = B .to in
       let y = B .end in
+      let l : it .end ≤ it .begin = count-end L (nodeOf (p .nodes) n .size) it (B .count) (omega arith) in
       let e : it .begin - offset ≡ size = omega arith in
       record { why = refl; private = B .private; used = B .used; memory = B .memory; length-kept = B .length-kept; bytes = rw e at (B .bytes) }
 
-module _ (L : ℕ) (one : 1 ≤ L) (A : ℕ → ℕ → ℕ → ℕ) (p : Pool) (P : Private L A p) (n offset : ℕ) (buf : List ℕ) (leaf : Leaf (p .nodes) n)
+module _ (L : ℕ) (A : ℕ → ℕ → ℕ → ℕ) (p : Pool) (P : Private L A p) (n offset : ℕ) (buf : List ℕ) (leaf : Leaf (p .nodes) n)
     (inside : offset + length buf ≤ nodeOf (p .nodes) n .size * L) where
   pub read-through : Reads L A p n offset buf (filled p (readRange L (p .nodes) (p .mappings) n offset (readOf (p .pages) (p .used) (p .memory) buf)))
   unfolding filled readRange
   read-through =
       let it = iterOf offset (offset + length buf) in
-      let c = each-keeps (step L one A p n offset (length buf) leaf inside) (Before L one A p n offset (length buf) leaf inside) (After L one A p n offset (length buf) leaf inside)
-      (ends L one A p n offset (length buf) leaf inside) (turn L one A p n offset (length buf) leaf inside)
+      let c = each-keeps (step L A p n offset (length buf) leaf inside) (Before L A p n offset (length buf) leaf inside) (After L A p n offset (length buf) leaf inside)
+      (ends L A p n offset (length buf) leaf inside) (turn L A p n offset (length buf) leaf inside)
       (countOf L it) it (readOf (p .pages) (p .used) (p .memory) buf)
       (record { from = omega arith; to = omega arith; end = refl; count = refl; private = P; used = refl; memory = refl; length-kept = refl; bytes = λ j l. absurd (omega arith) }) in
       record {

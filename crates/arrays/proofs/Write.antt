@@ -8,7 +8,6 @@ use native.Mathlib.Omega.{arith}
 use native.Mathlib.Nat.{div-mul-le-self, suc-mul}
 use lib.Arith.{digits-div}
 use lib.ListN.{length}
-use Rattle.logic.proofs.Means.{less, split}
 use Rattle.blocks.specs.declared.BlockIter.{BlockIter}
 use Rattle.blocks.specs.declared.BlockRange.{BlockRange}
 use Rattle.blocks.specs.declared.Next.{Next}
@@ -35,13 +34,13 @@ use Rattle.isolation.proofs.Put.{put-keeps}
 use Rattle.arrays.specs.Arrays.{writeArray, touched}
 use Rattle.arrays.specs.Outcomes.{Writes}
 use Rattle.arrays.proofs.Each.{Goes, each-keeps}
-use Rattle.arrays.proofs.Blocks.{First, Cut, cut, count-more, block-inside}
+use Rattle.arrays.proofs.Blocks.{First, Cut, cut, count-more, count-end, some-length, block-inside}
 use Rattle.arrays.proofs.Bytes.{private-alike, write-none, write-block}
 use Rattle.arrays.proofs.Spent.{Spent, spent-none, spent-more, spent-out, Ending}
 use Rattle.arrays.proofs.Spent.Ending.{all, out}
 use Rattle.arrays.proofs.Close.{closes}
 
-module _ (L : ℕ) (one : 1 ≤ L) (A : ℕ → ℕ → ℕ → ℕ) (p : Pool) (n offset : ℕ) (bytes : List ℕ) (leaf : Leaf (p .nodes) n)
+module _ (L : ℕ) (A : ℕ → ℕ → ℕ → ℕ) (p : Pool) (n offset : ℕ) (bytes : List ℕ) (leaf : Leaf (p .nodes) n)
     (inside : offset + length bytes ≤ nodeOf (p .nodes) n .size * L) where
   abbrev first : ℕ
   first = offset / L
@@ -78,7 +77,10 @@ module _ (L : ℕ) (one : 1 ≤ L) (A : ℕ → ℕ → ℕ → ℕ) (p : Pool) 
 
   module _ (k : ℕ) (it : BlockIter) (w : Work) (B : Before (suc k) it w) (b : BlockRange) (next : BlockIter) (F : First L it b next) where
     begins : it .begin < it .end
-    begins = count-more L one (it .begin) (it .end) k (B .count)
+    begins = count-more L (it .begin) (it .end) k (B .count)
+
+    one : 1 ≤ L
+    one = let e = B .end in some-length L (nodeOf (p .nodes) n .size) (it .begin) (it .end) begins (omega arith)
 
     block-is : b .block ≡ first + B .done
     block-is = F .block ∙ B .page begins
@@ -164,8 +166,9 @@ module _ (L : ℕ) (one : 1 ≤ L) (A : ℕ → ℕ → ℕ → ℕ) (p : Pool) 
   turn : (k : ℕ) (it : BlockIter) (w : Work) → Before (suc k) it w → After-turn k (step it w .why) (step it w)
   unfolding writePage writeBy wrotePage
   turn k it w B =
-      let l = count-more L one (it .begin) (it .end) k (B .count) in
-      let c = cut L one it l in
+      let l = count-more L (it .begin) (it .end) k (B .count) in
+      let e = B .end in
+      let c = cut L (some-length L (nodeOf (p .nodes) n .size) (it .begin) (it .end) l (omega arith)) it l in
       let b = c .block in
       subst (λ (x : Next). After-turn k (writeBy L (p .nodes) (p .mappings) n offset bytes it w x .why) (writeBy L (p .nodes) (p .mappings) n offset bytes it w x)) (sym (c .next))
       (let r = look L 64 (p .nodes) (p .mappings) w n (b .block) true n in
@@ -176,10 +179,10 @@ module _ (L : ℕ) (one : 1 ≤ L) (A : ℕ → ℕ → ℕ → ℕ) (p : Pool) 
   ends : (it : BlockIter) (w : Work) → Before 0 it w → After (partOf Fine it w)
   ends it w B =
       let e : B .done ≡ pages = let m = B .all-pages in omega arith in
-      let l : it .end ≤ it .begin = split (less (it .begin) (it .end)) (λ l. let c = cut L one it l .first .count in let m = B .count in absurd (omega arith)) (λ no. omega arith) in
       let x = B .from in
       let y = B .to in
       let z = B .end in
+      let l : it .end ≤ it .begin = count-end L (nodeOf (p .nodes) n .size) it (B .count) (omega arith) in
       record { private = B .private; ends = all refl (rw e at (B .spent .frames)) (omega arith) }
 
   range-writes : (w : Work) → Private L A (poolWith p w) → Spent p n first 0 w → After (writeRange L (p .nodes) (p .mappings) n offset bytes w)
@@ -199,13 +202,13 @@ module _ (L : ℕ) (one : 1 ≤ L) (A : ℕ → ℕ → ℕ → ℕ) (p : Pool) 
         spent = s;
       })
 
-module _ (L : ℕ) (one : 1 ≤ L) (A : ℕ → ℕ → ℕ → ℕ) (p : Pool) (P : Private L A p) (list : List ℕ) (n offset : ℕ) (bytes : List ℕ) (leaf : Leaf (p .nodes) n)
+module _ (L : ℕ) (A : ℕ → ℕ → ℕ → ℕ) (p : Pool) (P : Private L A p) (list : List ℕ) (n offset : ℕ) (bytes : List ℕ) (leaf : Leaf (p .nodes) n)
     (inside : offset + length bytes ≤ nodeOf (p .nodes) n .size * L) where
   pub write-through : Writes L A p n offset bytes (writeThrough L p list n offset bytes)
   unfolding writeThrough written rangedBy
   write-through =
       let r = writeRange L (p .nodes) (p .mappings) n offset bytes (workIn p list) in
-      let c = range-writes L one A p n offset bytes leaf inside (workIn p list) P (spent-none p n (offset / L) (workIn p list) refl refl) in
+      let c = range-writes L A p n offset bytes leaf inside (workIn p list) P (spent-none p n (offset / L) (workIn p list) refl refl) in
       record {
         private = c .private;
         stays = record { nodes = refl; mappings = refl; head = refl };
