@@ -1,20 +1,20 @@
 -- A sound pool's nodes, whatever their windows; and the entries after a frame was taken and given back. Assumes nothing.
-use mathlib.Core.Path.{_≡_, refl, sym, ap, _∙_}
-use mathlib.Core.Bool.{Bool, true, false, _&&_, not}
+use mathlib.Core.Path.{_≡_, sym, ap, _∙_}
+use mathlib.Core.Bool.{true, _&&_, not}
 use mathlib.Core.List.{List}
-use Prim.Native.Nat.{ℕ, suc, _+_, _-_, _≤_, _<_}
+use Prim.Native.Nat.{ℕ, suc, _+_, _-_, _<_}
 use native.Mathlib.Omega.{arith}
-use lib.Dec.{eqb, leb, ltb}
+use lib.Dec.{eqb}
 use lib.ListN.{length, getD, set, length-set}
 use lib.Seq.{getD-set-same, getD-set-other}
-use borrow.Author.Tests.{eqb-true, eqb-false, eq-eqb, leb-false, not-true}
+use borrow.Author.Tests.{eqb-false, eq-eqb, leb-false, not-true}
 use Rattle.logic.proofs.Means.{equal, less, split}
 use Rattle.logic.proofs.Laws.{and-left, and-right}
 use Rattle.node.specs.declared.Node.{Node}
-use Rattle.node.specs.Node.{hiddenOf, outOf}
+use Rattle.node.specs.Node.{outOf}
 use Rattle.tables.specs.Tables.{nodeOf}
 use Rattle.lookup.specs.Lookup.{asksOf}
-use Rattle.sound.specs.Facts.{Live, Hidden, Tree, Stands, Entries}
+use Rattle.sound.specs.Facts.{Live, Hidden, Tree, Entries}
 use Rattle.soundness.proofs.Records.{node-out}
 use Rattle.soundness.proofs.Chains.{rank, rank-up}
 use Rattle.isolation.proofs.Frames.{Idle}

@@ -3,11 +3,9 @@ use mathlib.Core.Path.{_≡_, refl}
 use mathlib.Core.Bool.{Bool, true, false}
 use mathlib.Core.List.{List}
 use Prim.Native.Nat.{ℕ, _+_, _*_, _≤_}
-use native.Mathlib.Omega.{arith}
-use lib.Dec.{leb, ltb}
+use lib.Dec.{ltb}
 use borrow.Author.Tests.{leb-true}
 use Rattle.logic.specs.Pick.{pick}
-use Rattle.logic.specs.declared.Found.{Found}
 use Rattle.logic.specs.declared.Found.the-variants.{At, Nothing}
 use Rattle.node.specs.Node.{leafOf}
 use Rattle.tables.specs.Pool.{Pool}
@@ -15,13 +13,12 @@ use Rattle.tables.specs.Tables.{nodeOf}
 use Rattle.sound.specs.Sound.{sound}
 use Rattle.sound.specs.Facts.{Leaf}
 use Rattle.pool.specs.declared.answer.Refusal.{Refusal}
-use Rattle.pool.specs.declared.answer.Refusal.the-variants.{NoObject, OutOfRange, NoRoom, BadState}
+use Rattle.pool.specs.declared.answer.Refusal.the-variants.{NoObject}
 use Rattle.pool.specs.declared.answer.Against.{Against}
 use Rattle.pool.specs.declared.answer.Against.the-variants.{Why, Nothing as Fine}
 use Rattle.pool.specs.Answers.{unless}
 use Rattle.pool.specs.Calls.{findObject, atNode, onNode}
 use Rattle.commit.specs.Noted.{roomOf}
-use Rattle.commit.specs.Commit.{pageRefusal}
 use Rattle.ranges.specs.Ranges.{insideOf, cachedOf, againstReading, againstWriting, againstCommitting}
 use Rattle.arrays.specs.Calls.{ByTests, Called}
 use Rattle.arrays.specs.Calls.Called.{refused, accepted}

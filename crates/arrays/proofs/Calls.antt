@@ -1,12 +1,11 @@
 -- The calls read, write and commit on any object and range: what they answer, and that every array is kept but for the bytes written. Assumes nothing.
-use mathlib.Core.Path.{_≡_, refl, sym, ap, _∙_}
+use mathlib.Core.Path.{_≡_, sym}
 use mathlib.Core.Bool.{true}
 use mathlib.Core.List.{List}
 use Prim.Native.Nat.{ℕ}
 use lib.ListN.{length}
 use Rattle.tables.specs.Pool.{Pool}
 use Rattle.sound.specs.Sound.{sound}
-use Rattle.pool.specs.declared.answer.Refusal.{Refusal}
 use Rattle.ranges.specs.Pages.{readOf}
 use Rattle.ranges.specs.Ranges.{Ranging, refusedRange, Filled, unfilled, filled, againstReading, againstWriting, againstCommitting, readRange, readAt, read, writeThrough, writeAt, write, commitThrough, commitAt, commit}
 use Rattle.isolation.specs.Private.{Private}

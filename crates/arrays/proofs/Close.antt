@@ -1,5 +1,5 @@
 -- The answer of a call by how its run of pages ended. Assumes nothing.
-use mathlib.Core.Path.{_≡_, refl, sym, ap, _∙_}
+use mathlib.Core.Path.{_≡_}
 use mathlib.Core.Logic.{_⊎_, inl, inr}
 use Prim.Native.Nat.{ℕ, suc, _+_, _-_, _≤_, _<_}
 use native.Mathlib.Omega.{arith}
@@ -8,9 +8,7 @@ use Rattle.tables.specs.Pool.{Pool}
 use Rattle.lookup.specs.Work.{Work}
 use Rattle.frames.specs.Frames.{freeCount}
 use Rattle.pool.specs.declared.answer.Against.{Against}
-use Rattle.pool.specs.declared.answer.Against.the-variants.{Why, Nothing as Fine}
-use Rattle.ranges.specs.Ranges.{answerBy, rangedBy}
-use Rattle.arrays.specs.Arrays.{needs}
+use Rattle.ranges.specs.Ranges.{rangedBy}
 use Rattle.arrays.specs.Outcomes.{Granted, Short}
 use Rattle.arrays.proofs.Spent.{sum, needs-grow, Out, Ending}
 use Rattle.arrays.proofs.Spent.Ending.{all, out}

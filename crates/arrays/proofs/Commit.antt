@@ -1,27 +1,26 @@
 -- A commit of pages keeps every array, and is refused exactly if the pages need more frames than are free. Assumes nothing.
-use mathlib.Core.Path.{_≡_, refl, sym, ap, _∙_, subst}
+use mathlib.Core.Path.{_≡_, refl, sym, subst}
 use mathlib.Core.Bool.{true}
 use mathlib.Core.List.{List}
-use mathlib.Core.Logic.{_⊎_, inl, inr, ⊎-elim}
-use Prim.Native.Nat.{ℕ, zero, suc, _+_, _-_, _*_, _/_, _≤_, _<_}
+use mathlib.Core.Logic.{inl, inr, ⊎-elim}
+use Prim.Native.Nat.{ℕ, suc, _+_, _*_, _/_, _≤_}
 use native.Mathlib.Omega.{arith}
 use native.Mathlib.Nat.{div-mul-le-self, div-zero, add-mul, le-of-mul-le-mul-right}
 use Rattle.logic.proofs.Means.{less, split}
 use Rattle.tables.specs.Pool.{Pool}
 use Rattle.tables.specs.Tables.{nodeOf}
-use Rattle.notices.specs.Notices.{toldOf}
 use Rattle.lookup.specs.declared.Looked.{Looked}
 use Rattle.lookup.specs.declared.Looked.the-variants.{Shared, Zero, Own, New, NoMemory, Stopped}
-use Rattle.lookup.specs.Work.{Work, workOf, Looking, lookingOf}
+use Rattle.lookup.specs.Work.{Work, lookingOf}
 use Rattle.lookup.specs.Lookup.{look}
 use Rattle.sound.specs.Facts.{Leaf}
 use Rattle.pool.specs.declared.answer.Against.{Against}
-use Rattle.pool.specs.declared.answer.Against.the-variants.{Why, Nothing as Fine}
-use Rattle.ranges.specs.Each.{Part, partOf, each}
+use Rattle.pool.specs.declared.answer.Against.the-variants.{Nothing as Fine}
+use Rattle.ranges.specs.Each.{Part, partOf}
 use Rattle.ranges.specs.Pages.{againstWrite, restBy, committedPage, commitPage}
 use Rattle.ranges.specs.Ranges.{workIn, rangedBy, commitRange, committed, commitThrough}
 use Rattle.isolation.specs.Private.{Private}
-use Rattle.isolation.specs.Kept.{poolWith, Answers, Kept}
+use Rattle.isolation.specs.Kept.{poolWith, Kept}
 use Rattle.isolation.proofs.Pass.{true-not}
 use Rattle.isolation.proofs.Look.{look-goes-on}
 use Rattle.arrays.specs.Outcomes.{Commits}

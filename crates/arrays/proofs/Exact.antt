@@ -1,5 +1,5 @@
 -- When the calls are done and when they are refused, and that none is ever STOPPED. Assumes nothing.
-use mathlib.Core.Path.{_≡_, refl, sym, ap, _∙_}
+use mathlib.Core.Path.{_≡_, ap}
 use mathlib.Core.Bool.{Bool, true}
 use mathlib.Core.List.{List}
 use mathlib.Core.Logic.{_⊎_, inl, inr, ⊎-elim}
@@ -14,12 +14,11 @@ use Rattle.pool.specs.declared.answer.Refusal.{Refusal}
 use Rattle.pool.specs.declared.answer.Refusal.the-variants.{NoMemory, Stopped}
 use Rattle.commit.specs.Noted.{Said, refusedOf}
 use Rattle.ranges.specs.Ranges.{Ranging, refusedRange, Filled, unfilled}
-use Rattle.isolation.specs.Private.{Private}
 use Rattle.isolation.specs.Need.{need}
 use Rattle.isolation.proofs.Pass.{true-not}
 use Rattle.arrays.specs.Arrays.{touched, needs}
 use Rattle.arrays.specs.Outcomes.{Reads, Granted, Short, Commits, Writes}
-use Rattle.arrays.specs.Calls.{ByTests, Called, Frame, ZeroFrame, NoFrame, Page}
+use Rattle.arrays.specs.Calls.{ByTests, Called, Page}
 use Rattle.arrays.specs.Calls.Called.{refused, accepted}
 
 done-not : {a : Answer} {v : ℕ} {r : Refusal} → a ≡ Done v → a ≡ Refused r → ⊥

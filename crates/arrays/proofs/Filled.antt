@@ -1,8 +1,8 @@
 -- A refused read fills no byte, in every pool. Assumes nothing.
-use mathlib.Core.Path.{_≡_, refl, sym, ap, _∙_}
+use mathlib.Core.Path.{_≡_, refl}
 use mathlib.Core.Bool.{Bool, true, false}
 use mathlib.Core.List.{List, []}
-use Prim.Native.Nat.{ℕ, suc, _+_}
+use Prim.Native.Nat.{ℕ}
 use native.Mathlib.Omega.{arith}
 use lib.Dec.{ltb}
 use lib.ListN.{length}
@@ -11,7 +11,7 @@ use Rattle.logic.specs.declared.Found.the-variants.{At, Nothing}
 use Rattle.blocks.specs.declared.BlockIter.{BlockIter}
 use Rattle.blocks.specs.declared.Next.{Next}
 use Rattle.blocks.specs.declared.Next.the-variants.{Block, Done as NoBlock}
-use Rattle.blocks.specs.Blocks.{iterOf, nextOf, countOf}
+use Rattle.blocks.specs.Blocks.{nextOf}
 use Rattle.node.specs.Node.{leafOf}
 use Rattle.tables.specs.Pool.{Pool}
 use Rattle.tables.specs.Tables.{nodeOf}
@@ -27,8 +27,7 @@ use Rattle.pool.specs.declared.answer.Against.{Against}
 use Rattle.pool.specs.declared.answer.Against.the-variants.{Why, Nothing as Fine}
 use Rattle.pool.specs.Answers.{unless}
 use Rattle.pool.specs.Calls.{findObject, atNode, onNode}
-use Rattle.ranges.specs.Each.{Part, partOf}
-use Rattle.ranges.specs.Pages.{againstRead, Read, readOf, quiet, lookRead, readThrough, readBy, readPage}
+use Rattle.ranges.specs.Pages.{againstRead, Read, readOf, lookRead, readThrough, readBy, readPage}
 use Rattle.ranges.specs.Ranges.{Filled, filled, unfilled, againstReading, readRange, readAt, read}
 use Rattle.soundness.proofs.Soundness.{sound-facts}
 use Rattle.bounds.specs.Reading.{Answers}

@@ -1,26 +1,22 @@
 -- Reads, writes and commits of pages keep a sound pool's tables sound, refused or not. Assumes nothing.
-use mathlib.Core.Path.{_≡_, refl, sym, ap, _∙_, subst}
+use mathlib.Core.Path.{_≡_, refl, _∙_}
 use mathlib.Core.Bool.{Bool, true, false}
-use mathlib.Core.List.{List, []}
-use Prim.Native.Nat.{ℕ, zero, suc, _+_, _-_, _*_, _/_, _%_, _≤_, _<_}
+use mathlib.Core.List.{List}
+use Prim.Native.Nat.{ℕ, suc, _+_, _-_, _*_, _≤_, _<_}
 use native.Mathlib.Omega.{arith}
-use native.Mathlib.Nat.{div-zero}
 use lib.Dec.{leb}
 use lib.ListN.{length, getD}
 use Rattle.logic.specs.Pick.{pick}
 use Rattle.logic.specs.Below.{copied}
-use Rattle.logic.proofs.Means.{less, equal, split}
+use Rattle.logic.proofs.Means.{less, split}
 use Rattle.logic.proofs.Laws.{copied-length}
 use Rattle.blocks.specs.declared.BlockIter.{BlockIter}
 use Rattle.blocks.specs.declared.BlockRange.{BlockRange}
-use Rattle.blocks.specs.declared.Next.{Next}
-use Rattle.blocks.specs.declared.Next.the-variants.{Block, Done as NoBlock}
-use Rattle.blocks.specs.Blocks.{iterOf, nextOf, countOf}
 use Rattle.blocks.proofs.Cut.{none}
 use Rattle.tables.specs.Pool.{Pool}
 use Rattle.tables.specs.Tables.{nodeOf}
 use Rattle.frames.specs.Frames.{pastedAt}
-use Rattle.notices.specs.Notices.{Told, toldOf}
+use Rattle.notices.specs.Notices.{Told}
 use Rattle.lookup.specs.declared.Looked.{Looked}
 use Rattle.lookup.specs.declared.Looked.the-variants.{Shared, Zero, Own, New, NoMemory, Stopped}
 use Rattle.lookup.specs.Work.{Work, workOf}
@@ -28,14 +24,13 @@ use Rattle.lookup.specs.Lookup.{look}
 use Rattle.sound.specs.Facts.{Leaf, Sound}
 use Rattle.pool.specs.declared.answer.Against.{Against}
 use Rattle.pool.specs.declared.answer.Against.the-variants.{Why, Nothing as Fine}
-use Rattle.ranges.specs.Each.{Part, partOf}
-use Rattle.ranges.specs.Pages.{againstWrite, againstRead, restBy, storedBy, wrotePage, writeBy, writePage, committedPage, commitPage, Read, readOf, quiet, lookRead, readThrough, readBy, readPage}
-use Rattle.ranges.specs.Ranges.{workIn, rangedBy, readRange, filled, writeRange, written, writeThrough, commitRange, committed, commitThrough}
+use Rattle.ranges.specs.Each.{partOf}
+use Rattle.ranges.specs.Pages.{againstWrite, againstRead, restBy, storedBy, wrotePage, writeBy, writePage, committedPage, commitPage, Read, lookRead, readThrough, readBy, readPage}
+use Rattle.ranges.specs.Ranges.{readRange, writeRange, commitRange}
 use Rattle.isolation.specs.Kept.{poolWith}
 use Rattle.isolation.proofs.State.{Ok}
 use Rattle.arrays.proofs.Each.{Goes, each-keeps, each-holds}
-use Rattle.arrays.proofs.Blocks.{Cut, cut, some-length, block-inside}
-use Rattle.arrays.proofs.Commit.{pages-inside}
+use Rattle.arrays.proofs.Blocks.{cut, some-length, block-inside}
 use Rattle.arrays.proofs.Read.{workFor}
 use Rattle.arrays.proofs.Base.{Base}
 use Rattle.arrays.proofs.Keep.{look-ok}

@@ -1,33 +1,30 @@
 -- Page lookup keeps a pool sound, whatever its windows and whatever it answers. Assumes nothing.
-use mathlib.Core.Path.{_≡_, refl, sym, ap, _∙_}
+use mathlib.Core.Path.{_≡_, refl, ap, _∙_}
 use mathlib.Core.Bool.{Bool, true, false, _&&_}
 use mathlib.Core.List.{List}
 use Prim.Native.Nat.{ℕ, zero, suc, _+_, _-_, _*_, _≤_, _<_}
 use native.Mathlib.Omega.{arith}
 use lib.ListN.{length, set, length-set}
 use borrow.Author.Tests.{eqb-true, eq-eqb}
-use Rattle.logic.specs.Pick.{pick}
 use Rattle.logic.specs.declared.Found.{Found}
 use Rattle.logic.specs.declared.Found.the-variants.{At, Nothing}
 use Rattle.entry.specs.declared.PageState.{PageState}
 use Rattle.entry.specs.declared.PageStateTag.{PageStateTag}
-use Rattle.entry.specs.declared.Slot.{Slot}
 use Rattle.entry.specs.declared.Slot.the-variants.{Empty, Held}
 use Rattle.entry.specs.Entry.{splitOf, newState, taggedOf}
-use Rattle.node.specs.declared.Node.{Node}
 use Rattle.node.specs.Node.{hiddenOf, leafOf, windowOf, outOf, sideOf}
 use Rattle.tables.specs.Tables.{nodeOf, slotAt, withState}
-use Rattle.frames.specs.Frames.{freeFrameIn, clearedAt, copiedAt}
+use Rattle.frames.specs.Frames.{freeFrameIn}
 use Rattle.notices.specs.Notices.{Told}
 use Rattle.lookup.specs.declared.Looked.{Looked}
 use Rattle.lookup.specs.declared.Looked.the-variants.{Shared, Zero, Own, New, NoMemory, Stopped}
-use Rattle.lookup.specs.Work.{Work, workOf, Looking, lookingOf}
+use Rattle.lookup.specs.Work.{Work, Looking, lookingOf}
 use Rattle.lookup.specs.Lookup.{asksOf, withTold, kept, without, cleared, freshBy, fresh, partBy, part, other, otherTold, shareOr, hiddenStep, leafTold, settleBy, settle, handedBy, holdsOf, enter, look}
 use Rattle.sound.specs.Facts.{Hidden, Leaf, Holds}
 use Rattle.isolation.proofs.Pass.{true-not}
 use Rattle.isolation.proofs.Table.{Wrote, others, wrote-state, wrote-none}
 use Rattle.isolation.proofs.Rows.{Loose, taken-out, put-in}
-use Rattle.isolation.proofs.Frames.{Idle, free-idle, frame-taken, retagged}
+use Rattle.isolation.proofs.Frames.{free-idle, frame-taken, retagged}
 use Rattle.isolation.proofs.Bytes.{cleared-length, copied-size}
 use Rattle.isolation.proofs.State.{Ok}
 use Rattle.isolation.proofs.Done.{by-pick, holds-not, holds-some}

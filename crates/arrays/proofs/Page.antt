@@ -1,13 +1,12 @@
 -- commit_page keeps every array; it is refused exactly if the page is to be written and needs more frames than are free. Assumes nothing.
-use mathlib.Core.Path.{_≡_, refl, sym, ap, _∙_}
-use mathlib.Core.Bool.{Bool, true, false}
+use mathlib.Core.Path.{_≡_, refl, ap}
+use mathlib.Core.Bool.{Bool}
 use mathlib.Core.List.{List}
 use mathlib.Core.Logic.{_⊎_, inl, inr}
-use Prim.Native.Nat.{ℕ, _%_, _≤_, _<_}
+use Prim.Native.Nat.{ℕ, _%_, _<_}
 use native.Mathlib.Omega.{arith}
 use lib.Dec.{leb}
 use borrow.Author.Tests.{leb-false}
-use Rattle.logic.specs.Pick.{pick}
 use Rattle.tables.specs.Pool.{Pool}
 use Rattle.tables.specs.Tables.{nodeOf}
 use Rattle.notices.specs.Notices.{toldOf}
@@ -19,12 +18,10 @@ use Rattle.sound.specs.Facts.{Leaf}
 use Rattle.commit.specs.Noted.{Said, refusedOf, roomOf}
 use Rattle.commit.specs.Commit.{pageRefusal, committed, commitAt, commitPage}
 use Rattle.isolation.specs.Private.{Private}
-use Rattle.isolation.specs.Need.{need}
-use Rattle.isolation.specs.Kept.{poolWith, workIn, Answers, Kept}
+use Rattle.isolation.specs.Kept.{poolWith, workIn, Answers}
 use Rattle.isolation.proofs.Frames.{none-free}
 use Rattle.isolation.proofs.Look.{look-keeps}
 use Rattle.soundness.proofs.Soundness.{facts-sound}
-use Rattle.arrays.specs.Outcomes.{Stays}
 use Rattle.arrays.specs.Calls.{Called, Frame, ZeroFrame, NoFrame, Page}
 use Rattle.arrays.specs.Calls.Called.{refused, accepted}
 use Rattle.arrays.proofs.Called.{Tests, tests-pick, called}

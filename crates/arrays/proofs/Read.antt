@@ -2,27 +2,26 @@
 use mathlib.Core.Path.{_≡_, refl, sym, ap, _∙_, subst}
 use mathlib.Core.Bool.{false}
 use mathlib.Core.List.{List, []}
-use Prim.Native.Nat.{ℕ, zero, suc, _+_, _-_, _*_, _/_, _%_, _≤_, _<_}
+use Prim.Native.Nat.{ℕ, suc, _+_, _-_, _*_, _≤_}
 use native.Mathlib.Omega.{arith}
-use lib.ListN.{length, getD}
+use lib.ListN.{length}
 use Rattle.blocks.specs.declared.BlockIter.{BlockIter}
 use Rattle.blocks.specs.declared.BlockRange.{BlockRange}
 use Rattle.blocks.specs.declared.Next.{Next}
-use Rattle.blocks.specs.declared.Next.the-variants.{Block}
-use Rattle.blocks.specs.Blocks.{iterOf, nextOf, countOf}
+use Rattle.blocks.specs.Blocks.{iterOf, countOf}
 use Rattle.tables.specs.Pool.{Pool}
 use Rattle.tables.specs.Tables.{nodeOf}
 use Rattle.frames.specs.Frames.{pastedAt, blankAt}
 use Rattle.notices.specs.Notices.{toldOf}
 use Rattle.lookup.specs.declared.Looked.{Looked}
 use Rattle.lookup.specs.declared.Looked.the-variants.{Shared, Zero, Own, New, NoMemory, Stopped}
-use Rattle.lookup.specs.Work.{Work, workOf, Looking, lookingOf}
+use Rattle.lookup.specs.Work.{Work, workOf, lookingOf}
 use Rattle.lookup.specs.Lookup.{look}
 use Rattle.sound.specs.Facts.{Leaf}
 use Rattle.pool.specs.declared.answer.Against.{Against}
-use Rattle.pool.specs.declared.answer.Against.the-variants.{Why, Nothing as Fine}
-use Rattle.ranges.specs.Each.{Part, partOf, each}
-use Rattle.ranges.specs.Pages.{againstRead, fetchedBy, restBy, Read, readOf, quiet, lookRead, readThrough, readBy, readPage}
+use Rattle.pool.specs.declared.answer.Against.the-variants.{Nothing as Fine}
+use Rattle.ranges.specs.Each.{Part, partOf}
+use Rattle.ranges.specs.Pages.{againstRead, fetchedBy, restBy, Read, readOf, lookRead, readThrough, readBy, readPage}
 use Rattle.ranges.specs.Ranges.{readRange, filled}
 use Rattle.isolation.specs.Private.{Private}
 use Rattle.isolation.specs.Kept.{poolWith, Kept}
@@ -32,7 +31,7 @@ use Rattle.isolation.proofs.Look.{look-goes-on}
 use Rattle.bounds.proofs.Quiet.{read-quiet}
 use Rattle.arrays.specs.Outcomes.{Reads}
 use Rattle.arrays.proofs.Each.{Goes, each-keeps}
-use Rattle.arrays.proofs.Blocks.{First, Cut, cut, count-more, count-end, some-length, block-inside}
+use Rattle.arrays.proofs.Blocks.{First, cut, count-more, count-end, some-length, block-inside}
 use Rattle.arrays.proofs.Fill.{Filling, pasted-fills, blank-fills, blank-length}
 
 -- what a read has is what a lookup starts from, with an empty list

@@ -1,8 +1,8 @@
 -- Every call keeps a pool sound: read, write, commit and commit_page, on any object and range, refused or not. Assumes nothing.
-use mathlib.Core.Path.{_≡_, refl, sym, ap, _∙_}
+use mathlib.Core.Path.{_≡_, refl, ap}
 use mathlib.Core.Bool.{Bool, true}
 use mathlib.Core.List.{List}
-use Prim.Native.Nat.{ℕ, _+_, _/_, _%_, _≤_, _<_}
+use Prim.Native.Nat.{ℕ, _/_, _%_, _<_}
 use native.Mathlib.Omega.{arith}
 use lib.ListN.{length}
 use Rattle.tables.specs.Pool.{Pool}
@@ -11,18 +11,17 @@ use Rattle.notices.specs.Notices.{toldOf}
 use Rattle.lookup.specs.Work.{Work, workOf}
 use Rattle.lookup.specs.Lookup.{look}
 use Rattle.sound.specs.Sound.{sound}
-use Rattle.sound.specs.Facts.{Leaf, Sound}
+use Rattle.sound.specs.Facts.{Sound}
 use Rattle.pool.specs.declared.answer.Refusal.{Refusal}
 use Rattle.commit.specs.Noted.{Said, refusedOf}
 use Rattle.commit.specs.Commit as One
 use Rattle.ranges.specs.Pages.{readOf}
-use Rattle.ranges.specs.Ranges.{workIn, rangedBy, Ranging, refusedRange, Filled, unfilled, filled, againstReading, againstWriting, againstCommitting, readRange, readAt, read, writeRange, written, writeThrough, writeAt, write, commitRange, committed, commitThrough, commitAt, commit}
+use Rattle.ranges.specs.Ranges.{workIn, rangedBy, Ranging, refusedRange, Filled, unfilled, filled, againstReading, againstWriting, againstCommitting, readRange, readAt, read, written, writeThrough, writeAt, write, committed, commitThrough, commitAt, commit}
 use Rattle.isolation.specs.Kept.{poolWith}
 use Rattle.soundness.proofs.Soundness.{sound-facts, facts-sound}
 use Rattle.arrays.specs.Calls.{Called}
 use Rattle.arrays.specs.Calls.Called.{refused, accepted}
 use Rattle.arrays.proofs.Commit.{pages-inside}
-use Rattle.arrays.proofs.Read.{workFor}
 use Rattle.arrays.proofs.Called.{Inside, reading-tests, writing-tests, committing-tests, called}
 use Rattle.arrays.proofs.Page.{page-tests}
 use Rattle.arrays.proofs.Fits.{Fits, fits-first, fits-sound, look-fits, commit-fits, write-fits, read-fits}

@@ -1,15 +1,13 @@
 -- Frames taken page by page: so far as many as the pages need, and the pages to come need what they needed. Assumes nothing.
-use mathlib.Core.Path.{_≡_, refl, sym, ap, _∙_}
+use mathlib.Core.Path.{_≡_, refl, _∙_}
 use mathlib.Core.Bool.{true}
 use mathlib.Core.List.{List}
-use Prim.Native.Nat.{ℕ, zero, suc, _+_, _-_, _≤_, _<_}
+use Prim.Native.Nat.{ℕ, zero, suc, _+_, _≤_, _<_}
 use native.Mathlib.Omega.{arith}
 use Rattle.logic.specs.Below.{sumBelow}
 use Rattle.tables.specs.Pool.{Pool}
-use Rattle.tables.specs.Tables.{nodeOf}
 use Rattle.frames.specs.Frames.{freeCount}
-use Rattle.lookup.specs.Work.{Work, Looking, lookingOf}
-use Rattle.lookup.specs.declared.Looked.{Looked}
+use Rattle.lookup.specs.Work.{Work, Looking}
 use Rattle.pool.specs.declared.answer.Against.{Against}
 use Rattle.pool.specs.declared.answer.Against.the-variants.{Why, Nothing as Fine}
 use Rattle.pool.specs.declared.answer.Refusal.the-variants.{NoMemory}

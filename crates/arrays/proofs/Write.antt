@@ -2,8 +2,7 @@
 use mathlib.Core.Path.{_≡_, refl, sym, ap, _∙_, subst}
 use mathlib.Core.Bool.{true}
 use mathlib.Core.List.{List}
-use mathlib.Core.Logic.{_⊎_}
-use Prim.Native.Nat.{ℕ, zero, suc, _+_, _-_, _*_, _/_, _≤_, _<_}
+use Prim.Native.Nat.{ℕ, suc, _+_, _-_, _*_, _/_, _≤_, _<_}
 use native.Mathlib.Omega.{arith}
 use native.Mathlib.Nat.{div-mul-le-self, suc-mul}
 use lib.Arith.{digits-div}
@@ -11,19 +10,17 @@ use lib.ListN.{length}
 use Rattle.blocks.specs.declared.BlockIter.{BlockIter}
 use Rattle.blocks.specs.declared.BlockRange.{BlockRange}
 use Rattle.blocks.specs.declared.Next.{Next}
-use Rattle.blocks.specs.declared.Next.the-variants.{Block}
-use Rattle.blocks.specs.Blocks.{iterOf, nextOf, countOf}
+use Rattle.blocks.specs.Blocks.{iterOf, countOf}
 use Rattle.tables.specs.Pool.{Pool}
 use Rattle.tables.specs.Tables.{nodeOf}
-use Rattle.frames.specs.Frames.{pastedAt}
 use Rattle.lookup.specs.declared.Looked.{Looked}
 use Rattle.lookup.specs.declared.Looked.the-variants.{Shared, Zero, Own, New, NoMemory, Stopped}
-use Rattle.lookup.specs.Work.{Work, workOf, Looking, lookingOf}
+use Rattle.lookup.specs.Work.{Work, lookingOf}
 use Rattle.lookup.specs.Lookup.{look}
 use Rattle.sound.specs.Facts.{Leaf}
 use Rattle.pool.specs.declared.answer.Against.{Against}
-use Rattle.pool.specs.declared.answer.Against.the-variants.{Why, Nothing as Fine}
-use Rattle.ranges.specs.Each.{Part, partOf, each}
+use Rattle.pool.specs.declared.answer.Against.the-variants.{Nothing as Fine}
+use Rattle.ranges.specs.Each.{Part, partOf}
 use Rattle.ranges.specs.Pages.{againstWrite, storedBy, restBy, wrotePage, writeBy, writePage}
 use Rattle.ranges.specs.Ranges.{workIn, rangedBy, writeRange, written, writeThrough}
 use Rattle.isolation.specs.Private.{Private, put}
@@ -34,7 +31,7 @@ use Rattle.isolation.proofs.Put.{put-keeps}
 use Rattle.arrays.specs.Arrays.{writeArray, touched}
 use Rattle.arrays.specs.Outcomes.{Writes}
 use Rattle.arrays.proofs.Each.{Goes, each-keeps}
-use Rattle.arrays.proofs.Blocks.{First, Cut, cut, count-more, count-end, some-length, block-inside}
+use Rattle.arrays.proofs.Blocks.{First, cut, count-more, count-end, some-length, block-inside}
 use Rattle.arrays.proofs.Bytes.{private-alike, write-none, write-block}
 use Rattle.arrays.proofs.Spent.{Spent, spent-none, spent-more, spent-out, Ending}
 use Rattle.arrays.proofs.Spent.Ending.{all, out}
