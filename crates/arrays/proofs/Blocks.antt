@@ -1,4 +1,5 @@
--- The cut of a range at the boundaries of pages of L bytes, L at least 1. Assumes nothing.
+-- The cut of a range at the boundaries of pages of L bytes: blocks lie inside their pages, touch one another, and end where the range does; as
+-- many as are counted. Assumes nothing.
 use mathlib.Core.Path.{_≡_, refl, ap, _∙_}
 use mathlib.Core.Bool.{Bool, true, false}
 use Prim.Native.Nat.{ℕ, suc, _+_, _-_, _*_, _/_, _%_, _≤_, _<_}

@@ -80,6 +80,11 @@ module _ (L : ℕ) (p : Pool) (s : Sound L p) where
   pub look-fits : (w : Work) → Fits w → (write : Bool) (n i : ℕ) → Leaf (p .nodes) n → i < nodeOf (p .nodes) n .size → Fits (look L 64 (p .nodes) (p .mappings) w n i write n .work)
   look-fits w o write n i leaf low = look-ok (p .nodes) base (p .mappings) L F w o write 64 n i n leaf low
 
+  -- page lookup of an object's page keeps the pool sound
+  pub look-sound : (t : Told) (write : Bool) (n i : ℕ) → Leaf (p .nodes) n → i < nodeOf (p .nodes) n .size
+      → Sound L (poolWith p (look L 64 (p .nodes) (p .mappings) (workOf (p .pages) (p .used) (p .memory) t) n i write n .work))
+  look-sound t write n i leaf low = fits-sound _ (look-fits (workOf (p .pages) (p .used) (p .memory) t) (fits-first t) write n i leaf low)
+
   stored-fits : (bytes : List ℕ) (from : ℕ) (b : BlockRange) (z : Looked) (w : Work) → Fits w → Fits (storedBy L bytes from b z w)
   unfolding storedBy
   stored-fits bytes from b (Shared f) w o =

@@ -4,6 +4,7 @@ pub mod Spent
 pub mod Close
 pub mod Commit
 pub mod Bytes
+pub mod Store
 pub mod Write
 pub mod Fill
 pub mod Read
@@ -13,6 +14,8 @@ pub mod Page
 pub mod Exact
 pub mod Filled
 pub mod Base
+pub mod Loose
+pub mod Settle
 pub mod Keep
 pub mod Fits
 pub mod Sound

@@ -23,16 +23,16 @@ use Rattle.pool.specs.declared.answer.Against.the-variants.{Nothing as Fine}
 use Rattle.ranges.specs.Each.{Part, partOf}
 use Rattle.ranges.specs.Pages.{againstWrite, storedBy, restBy, wrotePage, writeBy, writePage}
 use Rattle.ranges.specs.Ranges.{workIn, rangedBy, writeRange, written, writeThrough}
-use Rattle.isolation.specs.Private.{Private, put}
-use Rattle.isolation.specs.Kept.{poolWith, Gives, Kept}
+use Rattle.isolation.specs.Private.{Private}
+use Rattle.isolation.specs.Kept.{poolWith, Kept}
 use Rattle.isolation.proofs.Pass.{true-not}
 use Rattle.isolation.proofs.Look.{look-goes-on}
-use Rattle.isolation.proofs.Put.{put-keeps}
 use Rattle.arrays.specs.Arrays.{writeArray, touched}
 use Rattle.arrays.specs.Outcomes.{Writes}
 use Rattle.arrays.proofs.Each.{Goes, each-keeps}
 use Rattle.arrays.proofs.Blocks.{First, cut, count-more, count-end, some-length, block-inside}
-use Rattle.arrays.proofs.Bytes.{private-alike, write-none, write-block}
+use Rattle.arrays.proofs.Bytes.{private-alike, write-none}
+use Rattle.arrays.proofs.Store.{stored}
 use Rattle.arrays.proofs.Spent.{Spent, spent-none, spent-more, spent-out, Ending}
 use Rattle.arrays.proofs.Spent.Ending.{all, out}
 use Rattle.arrays.proofs.Close.{closes}
@@ -82,24 +82,6 @@ module _ (L : ℕ) (A : ℕ → ℕ → ℕ → ℕ) (p : Pool) (n offset : ℕ)
     block-is : b .block ≡ first + B .done
     block-is = F .block ∙ B .page begins
 
-    -- the bytes of the block stand in the page's frame
-    stored : (f : ℕ) (v : Work) → Private L (arrays (it .begin - offset)) (poolWith p v) → Gives L (poolWith p w) n (b .block) (arrays (it .begin - offset) n (b .block)) true f v
-        → Private L (arrays (next .begin - offset)) (poolWith p (storedBy L bytes (it .begin - offset) b (Shared f) v))
-    unfolding storedBy
-    stored f v P g =
-        let (s, holds, e) = g .own refl in
-        let a = F .starts in
-        let c = F .goes-on in
-        let x = F .some in
-        let y = F .within in
-        let z = B .from in
-        let u = B .end in
-        let d : it .begin - offset + (b .end - b .begin) ≡ next .begin - offset = omega arith in
-        let l = F .inside in
-        private-alike L (put (arrays (it .begin - offset)) n (b .block) (b .begin) (b .end - b .begin) bytes (it .begin - offset)) (arrays (next .begin - offset)) _
-        (λ m j k h. rw (← d) (write-block L A n offset bytes (it .begin - offset) (b .block) (b .begin) (b .end - b .begin) (omega arith) (omega arith) m j k h))
-        (rw (← e) (put-keeps L (arrays (it .begin - offset)) (poolWith p v) P n (b .block) leaf s holds (b .begin) (b .end - b .begin) bytes (it .begin - offset) (omega arith) (omega arith)))
-
     moved-on : (f : ℕ) (v : Work) → Private L (arrays (next .begin - offset)) (poolWith p (storedBy L bytes (it .begin - offset) b (Shared f) v)) → Spent p n first (suc (B .done)) v
         → Before k next (storedBy L bytes (it .begin - offset) b (Shared f) v)
     unfolding storedBy
@@ -142,7 +124,7 @@ module _ (L : ℕ) (A : ℕ → ℕ → ℕ → ℕ) (p : Pool) (n offset : ℕ)
         → After-turn k (againstWrite z) (partOf (againstWrite z) (restBy (againstWrite z) it next) (storedBy L bytes (it .begin - offset) b z v))
     unfolding storedBy
     turn-by (Shared f) v K =
-        moved-on f v (stored f v (K .private) (K .answers))
+        moved-on f v (let x = F .within in let y = B .end in stored L A p n offset bytes leaf it next b F (B .from) (omega arith) f v (K .private) (K .answers .own refl))
         (spent-more p n first L (arrays (it .begin - offset)) (B .done) w (B .private) (B .spent) (lookingOf (Shared f) v) (rw block-is at K) (rw block-is at (K .answers)))
     turn-by NoMemory v K =
         let l = begins in
