@@ -19,3 +19,4 @@ pub mod Settle
 pub mod Keep
 pub mod Fits
 pub mod Sound
+pub mod Cases
