@@ -1,3 +1,5 @@
 pub mod Steps
 pub mod Walk
 pub mod Bytes
+pub mod Whole
+pub mod Peeks
