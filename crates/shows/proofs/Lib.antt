@@ -3,3 +3,4 @@ pub mod Walk
 pub mod Bytes
 pub mod Whole
 pub mod Peeks
+pub mod Arrays

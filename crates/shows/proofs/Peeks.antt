@@ -1,5 +1,5 @@
 -- Peek shows the bytes that a read of the whole page gives, and nothing exactly where that read is refused or the zero page is none. Assumes nothing.
-use mathlib.Core.Path.{_≡_, refl, sym, ap, _∙_}
+use mathlib.Core.Path.{_≡_, refl, ap}
 use mathlib.Core.Bool.{Bool, true, false}
 use mathlib.Core.List.{List, []}
 use mathlib.Core.Logic.{_⊎_, inl, inr}
@@ -25,7 +25,6 @@ use Rattle.pool.specs.Answers.{unless}
 use Rattle.pool.specs.Calls.{findObject, atNode, onNode}
 use Rattle.ranges.specs.Pages.{readOf}
 use Rattle.ranges.specs.Ranges.{Filled, filled, unfilled, againstReading, readRange, readAt, read}
-use Rattle.isolation.proofs.Pass.{true-not}
 use Rattle.peek.specs.declared.Place.{Place}
 use Rattle.peek.specs.declared.Place.the-variants.{Nowhere}
 use Rattle.peek.specs.Peek.{zeroPageOf, placeBy, placeAt, place, shownAt, peek}

@@ -1,8 +1,8 @@
 -- A read of one whole page is one step, and it gives what the walk shows. Assumes nothing.
-use mathlib.Core.Path.{_≡_, refl, sym, ap, _∙_}
+use mathlib.Core.Path.{_≡_, refl, ap, _∙_}
 use mathlib.Core.Bool.{true, false}
 use mathlib.Core.List.{List, []}
-use Prim.Native.Nat.{ℕ, suc, _+_, _-_, _*_, _/_, _≤_, _<_}
+use Prim.Native.Nat.{ℕ, _+_, _-_, _*_, _/_, _≤_}
 use native.Mathlib.Omega.{arith}
 use lib.Arith.{digits-div}
 use lib.ListN.{length}
@@ -12,7 +12,6 @@ use Rattle.blocks.specs.declared.BlockRange.{BlockRange}
 use Rattle.blocks.specs.declared.Next.the-variants.{Block}
 use Rattle.blocks.specs.Blocks.{iterOf, nextOf, countOf}
 use Rattle.tables.specs.Pool.{Pool}
-use Rattle.tables.specs.Tables.{nodeOf}
 use Rattle.notices.specs.Notices.{toldOf}
 use Rattle.lookup.specs.declared.Looked.{Looked}
 use Rattle.lookup.specs.Work.{workOf, Looking}
@@ -23,9 +22,9 @@ use Rattle.seek.specs.declared.Sought.the-variants.{Shared, Zero, Absent, Moves
 use Rattle.seek.specs.Seek.{seekPage}
 use Rattle.pool.specs.declared.answer.Against.the-variants.{Nothing as Fine}
 use Rattle.ranges.specs.Each.{Part, partOf, onward, each}
-use Rattle.ranges.specs.Pages.{againstRead, fetchedBy, Read, readOf, lookRead, readThrough, readBy, readPage}
+use Rattle.ranges.specs.Pages.{againstRead, Read, readOf, lookRead, readThrough, readBy, readPage}
 use Rattle.ranges.specs.Ranges.{filled, readRange}
-use Rattle.arrays.proofs.Blocks.{First, cut, count-none}
+use Rattle.arrays.proofs.Blocks.{cut, count-none}
 use Rattle.peek.specs.Peek.{zeroPageOf, placeBy, shownAt}
 use Rattle.shows.specs.Shows.{ReadAs, Sees, Peeked}
 use Rattle.shows.specs.Shows.Peeked.{bytes}

@@ -3,7 +3,7 @@
 use mathlib.Core.Path.{_≡_}
 use mathlib.Core.List.{List, []}
 use Prim.Native.Nat.{ℕ, _<_}
-use lib.ListN.{length}
+use lib.ListN.{length, getD}
 use Rattle.lookup.specs.declared.Looked.{Looked}
 use Rattle.lookup.specs.declared.Looked.the-variants as K
 use Rattle.lookup.specs.Work.{Work, Looking}
@@ -37,3 +37,8 @@ pub data Peeked (L : ℕ) (shown : List ℕ) (r : Filled) : Type 0 where
 pub record Refuses (r : Filled) : Type 0 where
   pub why : Refusal
   pub answer : r .answer ≡ Refused why
+
+-- the L bytes a 0, a 1, ..
+pub record BytesOf (L : ℕ) (a : ℕ → ℕ) (shown : List ℕ) : Type 0 where
+  pub size : length shown ≡ L
+  pub bytes : (k : ℕ) → k < L → getD shown k 0 ≡ a k
