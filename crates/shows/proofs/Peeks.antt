@@ -61,7 +61,7 @@ module _ (L : ℕ) (p : Pool) (zero : List ℕ) (object page : ℕ) where
 
 -- next to the read
 
-module _ (L : ℕ) (one : 1 ≤ L) (p : Pool) (zero : List ℕ) (object page : ℕ) (buf : List ℕ) (whole : length buf ≡ L) where
+module _ (L : ℕ) (p : Pool) (zero : List ℕ) (object page : ℕ) (buf : List ℕ) (whole : length buf ≡ L) where
   abbrev shown : List ℕ
   shown = peek L p zero object page
 
@@ -73,7 +73,7 @@ module _ (L : ℕ) (one : 1 ≤ L) (p : Pool) (zero : List ℕ) (object page : �
         → Peeked L (shownAt L (p .memory) zero (unless a (λ r. Nowhere) (placeBy (seekPage (p .nodes) (p .pages) object page false))))
         (unless a (unfilled p buf) (filled p (readRange L (p .nodes) (p .mappings) object (page * L) (readOf (p .pages) (p .used) (p .memory) buf))))
     node-by s leaf (Why r) = nothing r refl refl
-    node-by s leaf Fine = page-read L one p s object page leaf zero good buf whole
+    node-by s leaf Fine = page-read L p s object page leaf zero good buf whole
 
     call-by : (s a b : Bool) → sound L p ≡ s → leafOf (nodeOf (p .nodes) object) ≡ b
         → Peeked L (shownAt L (p .memory) zero (pick s (atNode (λ r. Nowhere) (λ n. placeAt L p n page) (pick a (pick b (At object) Nothing) Nothing)) Nowhere))
@@ -110,8 +110,9 @@ module _ (L : ℕ) (one : 1 ≤ L) (p : Pool) (zero : List ℕ) (object page : �
   empty-peek (inl bad) = peek-zero L p zero object page bad
   empty-peek (inr r) = peek-refused (r .why) (r .answer)
 
-  pub peek-empty : shown ≡ [] → (zeroPageOf L zero ≡ false) ⊎ Refuses given
-  peek-empty h = by (zeroPageOf L zero) refl
+  -- pages of no bytes are shown empty, and read
+  pub peek-empty : 1 ≤ L → shown ≡ [] → (zeroPageOf L zero ≡ false) ⊎ Refuses given
+  peek-empty one h = by (zeroPageOf L zero) refl
     where
       called : Peeked L shown given → Refuses given
       called (nothing why e n) = record { why = why; answer = e }

@@ -1,11 +1,12 @@
 -- A read of one whole page is one step, and it gives what the walk shows. Assumes nothing.
-use mathlib.Core.Path.{_≡_, refl, ap, _∙_}
+use mathlib.Core.Path.{_≡_, refl, sym, ap, _∙_}
 use mathlib.Core.Bool.{true, false}
 use mathlib.Core.List.{List, []}
 use Prim.Native.Nat.{ℕ, _+_, _-_, _*_, _/_, _≤_}
 use native.Mathlib.Omega.{arith}
 use lib.Arith.{digits-div}
 use lib.ListN.{length}
+use lib.Seq.{ext-getD}
 use Rattle.logic.proofs.Means.{less, split}
 use Rattle.blocks.specs.declared.BlockIter.{BlockIter}
 use Rattle.blocks.specs.declared.BlockRange.{BlockRange}
@@ -108,9 +109,28 @@ module _ (L : ℕ) (one : 1 ≤ L) (p : Pool) (sound : Sound L p) (n page : ℕ)
       rw (sees .memory)
       (shown-filled L (length (p .used)) (p .memory) (sound .lengths .memory) zero good buf whole (w .block) (w .begin) (w .end) (seekPage (p .nodes) (p .pages) n page false) (looked .answer) (sees .answer))
 
-  pub page-read : Peeked L (shownAt L (p .memory) zero (placeBy (seekPage (p .nodes) (p .pages) n page false))) (filled p (readRange L (p .nodes) (p .mappings) n (page * L) (readOf (p .pages) (p .used) (p .memory) buf)))
+  some-read : Peeked L (shownAt L (p .memory) zero (placeBy (seekPage (p .nodes) (p .pages) n page false))) (filled p (readRange L (p .nodes) (p .mappings) n (page * L) (readOf (p .pages) (p .used) (p .memory) buf)))
   unfolding filled
-  page-read =
+  some-read =
       rw range-is
       (bytes refl gone-bytes
       (shown-length L (length (p .used)) (p .memory) (sound .lengths .memory) zero good (seekPage (p .nodes) (p .pages) n page false) (looked .answer) (sees .answer)))
+
+-- with pages of no bytes there is no step, and nothing to show
+
+no-bytes : (a b : List ℕ) → length a ≡ 0 → length b ≡ 0 → a ≡ b
+no-bytes a b x y = ext-getD 0 a b (x ∙ sym y) (λ i l. absurd (omega arith))
+
+module _ (L : ℕ) (p : Pool) (sound : Sound L p) (n page : ℕ) (leaf : Leaf (p .nodes) n) (zero : List ℕ) (good : zeroPageOf L zero ≡ true) (buf : List ℕ) (whole : length buf ≡ L) where
+  abbrev Same : Type 0
+  Same = Peeked L (shownAt L (p .memory) zero (placeBy (seekPage (p .nodes) (p .pages) n page false))) (filled p (readRange L (p .nodes) (p .mappings) n (page * L) (readOf (p .pages) (p .used) (p .memory) buf)))
+
+  none-read : L ≡ 0 → Same
+  unfolding filled readRange each
+  none-read z =
+      let s = seek-reads L p sound (p .mappings) (p .used) (p .memory) (toldOf [] 0) n page leaf in
+      let l = shown-length L (length (p .used)) (p .memory) (sound .lengths .memory) zero good (seekPage (p .nodes) (p .pages) n page false) _ (s .answer) in
+      rw (count-none L (page * L) (page * L + length buf) (omega arith)) (bytes refl (no-bytes _ buf (l ∙ z) (whole ∙ z)) l)
+
+  pub page-read : Same
+  page-read = split (less 0 L) (λ l. some-read L (omega arith) p sound n page leaf zero good buf whole) (λ no. none-read (omega arith))
