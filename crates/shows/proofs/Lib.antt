@@ -4,3 +4,4 @@ pub mod Bytes
 pub mod Whole
 pub mod Peeks
 pub mod Arrays
+pub mod Cases

@@ -1,4 +1,4 @@
--- Peek shows the bytes that a read of the whole page gives, and nothing exactly where that read is refused or the zero page is none. Assumes nothing.
+-- Peek shows the bytes that a read of the page gives; it shows none exactly where that read is refused or the zero page isn't L zeros. Assumes nothing.
 use mathlib.Core.Path.{_≡_, refl, ap}
 use mathlib.Core.Bool.{Bool, true, false}
 use mathlib.Core.List.{List, []}
