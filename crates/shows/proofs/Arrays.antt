@@ -1,0 +1,71 @@
+-- Peek shows the page of the object's own array. Assumes nothing.
+use mathlib.Core.Path.{_≡_, sym, subst, _∙_}
+use mathlib.Core.Bool.{true, false}
+use mathlib.Core.List.{List, []}
+use Prim.Native.Nat.{ℕ, _+_, _*_, _<_}
+use native.Mathlib.Omega.{arith}
+use lib.ListN.{length, getD}
+use borrow.Author.Tests.{eq-eqb, le-leb, lt-ltb}
+use Rattle.tables.specs.Pool.{Pool}
+use Rattle.tables.specs.Tables.{nodeOf}
+use Rattle.notices.specs.Notices.{Told, toldOf}
+use Rattle.lookup.specs.declared.Looked.{Looked}
+use Rattle.lookup.specs.Work.{Work}
+use Rattle.lookup.specs.Lookup.{look}
+use Rattle.sound.specs.Facts.{Leaf}
+use Rattle.soundness.proofs.Soundness.{facts-sound}
+use Rattle.seek.specs.declared.Sought.{Sought}
+use Rattle.seek.specs.declared.Sought.the-variants.{Shared, Zero, Absent, Moves, Stops}
+use Rattle.seek.specs.Seek.{seekPage}
+use Rattle.pool.specs.Calls.{findObject, atNode, onNode}
+use Rattle.ranges.specs.Ranges.{cachedOf, insideOf, againstReading}
+use Rattle.isolation.specs.Private.{Private}
+use Rattle.isolation.specs.Kept.{workIn, Gives, Answers}
+use Rattle.isolation.proofs.Bytes.{frame-room}
+use Rattle.isolation.proofs.Look.{look-keeps}
+use Rattle.arrays.proofs.Base.{node-low}
+use Rattle.peek.specs.Peek.{zeroPageOf, placeBy, placeAt, place, shownAt, frameBytes, peek}
+use Rattle.shows.specs.Shows.{ReadAs, BytesOf}
+use Rattle.shows.proofs.Walk.{seek-reads}
+use Rattle.shows.proofs.Bytes.{zero-byte, frame-byte, shown-length}
+
+module _ (L : ℕ) (A : ℕ → ℕ → ℕ → ℕ) (p : Pool) (P : Private L A p) (zero : List ℕ) (good : zeroPageOf L zero ≡ true) (n page : ℕ) (leaf : Leaf (p .nodes) n) (low : page < nodeOf (p .nodes) n .size) where
+  abbrev t : Told
+  t = toldOf [] 0
+
+  abbrev F : ℕ
+  F = length (p .used)
+
+  frame-shows : (f : ℕ) (w : Work) → f < F → w .memory ≡ p .memory → Gives L p n page (A n page) false f w → (k : ℕ) → k < L → getD (frameBytes L (p .memory) f) k 0 ≡ A n page k
+  frame-shows f w l m g k h =
+      let r = frame-room L F f l in
+      let q = P .sound .lengths .memory in
+      frame-byte L (p .memory) f (omega arith) k h ∙ (rw m at (g .bytes k h))
+
+  find-shows : (s : Sought) (z : Looked) (w : Work) → w .memory ≡ p .memory → ReadAs F s z → Answers L p t n page (A n page) false z w
+      → (k : ℕ) → k < L → getD (shownAt L (p .memory) zero (placeBy s)) k 0 ≡ A n page k
+  find-shows (Shared f) z w m a g k h = frame-shows f w (a .1) m (subst (λ (x : Looked). Answers L p t n page (A n page) false x w) (a .0) g) k h
+  find-shows (Moves f) z w m a g k h = frame-shows f w (a .1) m (subst (λ (x : Looked). Answers L p t n page (A n page) false x w) (a .0) g) k h
+  find-shows Zero z w m a g k h =
+      let d = subst (λ (x : Looked). Answers L p t n page (A n page) false x w) a g in
+      zero-byte L zero good k h ∙ sym (d .bytes k h)
+  find-shows Absent z w m a g k h = absurd a
+  find-shows Stops z w m a g k h = absurd a
+
+  -- a page inside an object of the policy Cached is found
+  found : nodeOf (p .nodes) n .«cache_policy» ≡ 0 → peek L p zero n page ≡ shownAt L (p .memory) zero (placeBy (seekPage (p .nodes) (p .pages) n page false))
+  unfolding peek place onNode findObject atNode placeAt againstReading cachedOf insideOf
+  found cached =
+      rw (good, facts-sound L p (P .sound), lt-ltb n 64 (node-low (p .nodes) (record { next = getD (p .head) 0 0; len = P .sound .lengths .nodes; tree = P .sound .tree }) n page low), leaf, eq-eqb (nodeOf (p .nodes) n .«cache_policy») 0 cached, le-leb (page * L + L) (nodeOf (p .nodes) n .size * L) (frame-room L (nodeOf (p .nodes) n .size) page low))
+
+  pub peek-array : nodeOf (p .nodes) n .«cache_policy» ≡ 0 → BytesOf L (A n page) (peek L p zero n page)
+  peek-array cached =
+      let s = seek-reads L p (P .sound) (p .mappings) (p .used) (p .memory) t n page leaf in
+      let k = look-keeps L A p P t n page false leaf low in
+      let r = look L 64 (p .nodes) (p .mappings) (workIn p t) n page false n in
+      let x = seekPage (p .nodes) (p .pages) n page false in
+      rw (found cached)
+      (record {
+        size = shown-length L F (p .memory) (P .sound .lengths .memory) zero good x (r .answer) (s .answer);
+        bytes = find-shows x (r .answer) (r .work) (s .memory) (s .answer) (k .answers);
+      })

@@ -1,0 +1,123 @@
+-- Peek shows the bytes that a read of the page gives; it shows none exactly where that read is refused or the zero page isn't L zeros. Assumes nothing.
+use mathlib.Core.Path.{_≡_, refl, ap}
+use mathlib.Core.Bool.{Bool, true, false}
+use mathlib.Core.List.{List, []}
+use mathlib.Core.Logic.{_⊎_, inl, inr}
+use Prim.Native.Nat.{ℕ, _*_, _≤_}
+use native.Mathlib.Omega.{arith}
+use lib.Dec.{ltb}
+use lib.ListN.{length}
+use Rattle.logic.specs.Pick.{pick}
+use Rattle.logic.specs.declared.Found.the-variants.{At, Nothing}
+use Rattle.node.specs.Node.{leafOf}
+use Rattle.tables.specs.Pool.{Pool}
+use Rattle.tables.specs.Tables.{nodeOf}
+use Rattle.sound.specs.Sound.{sound}
+use Rattle.sound.specs.Facts.{Leaf, Sound}
+use Rattle.soundness.proofs.Soundness.{sound-facts}
+use Rattle.seek.specs.Seek.{seekPage}
+use Rattle.pool.specs.declared.answer.Answer.the-variants.{Done, Refused}
+use Rattle.pool.specs.declared.answer.Refusal.{Refusal}
+use Rattle.pool.specs.declared.answer.Refusal.the-variants.{BadPool, NoObject}
+use Rattle.pool.specs.declared.answer.Against.{Against}
+use Rattle.pool.specs.declared.answer.Against.the-variants.{Why, Nothing as Fine}
+use Rattle.pool.specs.Answers.{unless}
+use Rattle.pool.specs.Calls.{findObject, atNode, onNode}
+use Rattle.ranges.specs.Pages.{readOf}
+use Rattle.ranges.specs.Ranges.{Filled, filled, unfilled, againstReading, readRange, readAt, read}
+use Rattle.peek.specs.declared.Place.{Place}
+use Rattle.peek.specs.declared.Place.the-variants.{Nowhere}
+use Rattle.peek.specs.Peek.{zeroPageOf, placeBy, placeAt, place, shownAt, peek}
+use Rattle.shows.specs.Shows.{Peeked, Refuses}
+use Rattle.shows.specs.Shows.Peeked.{nothing, bytes}
+use Rattle.shows.proofs.Whole.{page-read}
+
+-- where a test fails nothing is shown, whatever the page length
+
+module _ (L : ℕ) (p : Pool) (zero : List ℕ) (object page : ℕ) where
+  at-good : (b : Bool) (x : Place) → (zeroPageOf L zero ≡ true → x ≡ Nowhere) → zeroPageOf L zero ≡ b → shownAt L (p .memory) zero (pick b x Nowhere) ≡ []
+  at-good true x n e = rw (n e)
+  at-good false x n e = refl
+
+  nowhere : onNode L p object (λ r. Nowhere) (λ n. placeAt L p n page) ≡ Nowhere → peek L p zero object page ≡ []
+  unfolding peek place
+  nowhere e = at-good (zeroPageOf L zero) _ (λ g. e) refl
+
+  pub peek-zero : zeroPageOf L zero ≡ false → peek L p zero object page ≡ []
+  unfolding peek place
+  peek-zero e = rw e
+
+  pub peek-pool : sound L p ≡ false → peek L p zero object page ≡ []
+  unfolding onNode
+  peek-pool e = nowhere (rw e)
+
+  pub peek-object : findObject (p .nodes) object ≡ Nothing → peek L p zero object page ≡ []
+  unfolding onNode atNode
+  peek-object e = nowhere (rw e (by (sound L p)))
+    where
+      by : (b : Bool) → pick b Nowhere Nowhere ≡ Nowhere
+      by true = refl
+      by false = refl
+
+-- next to the read
+
+module _ (L : ℕ) (p : Pool) (zero : List ℕ) (object page : ℕ) (buf : List ℕ) (whole : length buf ≡ L) where
+  abbrev shown : List ℕ
+  shown = peek L p zero object page
+
+  abbrev given : Filled
+  given = read L p object (page * L) buf
+
+  module _ (good : zeroPageOf L zero ≡ true) where
+    node-by : Sound L p → Leaf (p .nodes) object → (a : Against)
+        → Peeked L (shownAt L (p .memory) zero (unless a (λ r. Nowhere) (placeBy (seekPage (p .nodes) (p .pages) object page false))))
+        (unless a (unfilled p buf) (filled p (readRange L (p .nodes) (p .mappings) object (page * L) (readOf (p .pages) (p .used) (p .memory) buf))))
+    node-by s leaf (Why r) = nothing r refl refl
+    node-by s leaf Fine = page-read L p s object page leaf zero good buf whole
+
+    call-by : (s a b : Bool) → sound L p ≡ s → leafOf (nodeOf (p .nodes) object) ≡ b
+        → Peeked L (shownAt L (p .memory) zero (pick s (atNode (λ r. Nowhere) (λ n. placeAt L p n page) (pick a (pick b (At object) Nothing) Nothing)) Nowhere))
+        (pick s (atNode (unfilled p buf) (λ n. readAt L p n (page * L) buf) (pick a (pick b (At object) Nothing) Nothing)) (unfilled p buf BadPool))
+    unfolding atNode placeAt readAt
+    call-by false a b e f = nothing BadPool refl refl
+    call-by true false b e f = nothing NoObject refl refl
+    call-by true true false e f = nothing NoObject refl refl
+    call-by true true true e f = rw whole (node-by (sound-facts L p e) f (againstReading L (p .nodes) object (page * L) L))
+
+    pub peek-called : Peeked L shown given
+    unfolding peek place onNode findObject
+    peek-called = rw good (call-by (sound L p) (ltb object 64) (leafOf (nodeOf (p .nodes) object)) refl refl)
+
+    pub peek-is-read : (v : ℕ) → given .answer ≡ Done v → shown ≡ given .buf
+    peek-is-read v h = by peek-called
+      where
+        by : Peeked L shown given → shown ≡ given .buf
+        by (nothing why e n) = let z : _≡_ {A = ℕ} 0 1 = cc in absurd (omega arith)
+        by (bytes e b l) = b
+
+  pub peek-refused : (why : Refusal) → given .answer ≡ Refused why → shown ≡ []
+  peek-refused why h = by (zeroPageOf L zero) refl
+    where
+      called : Peeked L shown given → shown ≡ []
+      called (nothing why e n) = n
+      called (bytes e b l) = let z : _≡_ {A = ℕ} 0 1 = cc in absurd (omega arith)
+
+      by : (g : Bool) → zeroPageOf L zero ≡ g → shown ≡ []
+      by true g = called (peek-called g)
+      by false g = peek-zero L p zero object page g
+
+  pub empty-peek : (zeroPageOf L zero ≡ false) ⊎ Refuses given → shown ≡ []
+  empty-peek (inl bad) = peek-zero L p zero object page bad
+  empty-peek (inr r) = peek-refused (r .why) (r .answer)
+
+  -- pages of no bytes are shown empty, and read
+  pub peek-empty : 1 ≤ L → shown ≡ [] → (zeroPageOf L zero ≡ false) ⊎ Refuses given
+  peek-empty one h = by (zeroPageOf L zero) refl
+    where
+      called : Peeked L shown given → Refuses given
+      called (nothing why e n) = record { why = why; answer = e }
+      called (bytes e b l) = let z = ap length h in absurd (omega arith)
+
+      by : (g : Bool) → zeroPageOf L zero ≡ g → (zeroPageOf L zero ≡ false) ⊎ Refuses given
+      by true g = inr (called (peek-called g))
+      by false g = inl g

@@ -1,0 +1,44 @@
+-- What the walk for reading finds next to what page lookup answers, and what peek shows next to what a read gives. A peek is a function to a list
+-- of bytes: it leaves no pool, so nothing is moved by it.
+use mathlib.Core.Path.{_≡_}
+use mathlib.Core.List.{List, []}
+use Prim.Native.Nat.{ℕ, _<_}
+use lib.ListN.{length, getD}
+use Rattle.lookup.specs.declared.Looked.{Looked}
+use Rattle.lookup.specs.declared.Looked.the-variants as K
+use Rattle.lookup.specs.Work.{Work, Looking}
+use Rattle.seek.specs.declared.Sought.{Sought}
+use Rattle.seek.specs.declared.Sought.the-variants.{Shared, Zero, Absent, Moves, Stops}
+use Rattle.pool.specs.declared.answer.Answer.the-variants.{Done, Refused}
+use Rattle.pool.specs.declared.answer.Refusal.{Refusal}
+use Rattle.ranges.specs.Ranges.{Filled}
+
+-- lookup answers the frame found, one of F, whether it would move or not, or zeros; the walk never ends without
+abbrev pub ReadAs : ℕ → Sought → Looked → Type 0
+ReadAs F (Shared f) z = (z ≡ K.Shared f) × (f < F)
+ReadAs F (Moves f) z = (z ≡ K.Shared f) × (f < F)
+ReadAs F Zero z = z ≡ K.Zero
+ReadAs F Absent z = ⊥
+ReadAs F Stops z = ⊥
+
+-- and it changes no more than page entries
+pub record Sees (F : ℕ) (s : Sought) (w : Work) (r : Looking) : Type 0 where
+  pub answer : ReadAs F s (r .answer)
+  pub used : r .work .used ≡ w .used
+  pub memory : r .work .memory ≡ w .memory
+  pub told : r .work .told ≡ w .told
+
+-- the read is refused and peek shows nothing, or peek shows the L bytes that the read gives
+pub data Peeked (L : ℕ) (shown : List ℕ) (r : Filled) : Type 0 where
+  nothing : (why : Refusal) → r .answer ≡ Refused why → shown ≡ [] → Peeked L shown r
+  bytes : r .answer ≡ Done 0 → shown ≡ r .buf → length shown ≡ L → Peeked L shown r
+
+-- the read is refused
+pub record Refuses (r : Filled) : Type 0 where
+  pub why : Refusal
+  pub answer : r .answer ≡ Refused why
+
+-- the L bytes a 0, a 1, ..
+pub record BytesOf (L : ℕ) (a : ℕ → ℕ) (shown : List ℕ) : Type 0 where
+  pub size : length shown ≡ L
+  pub bytes : (k : ℕ) → k < L → getD shown k 0 ≡ a k
