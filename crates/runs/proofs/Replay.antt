@@ -28,7 +28,7 @@ use Rattle.runs.proofs.Ranges.{read-leaf}
 use Rattle.runs.proofs.Steps.{arraysBy, step-private, step-same, step-live, step-keeps}
 
 -- the first n of the numbers f 0, f 1, ..
-listed : (ℕ → ℕ) → ℕ → List ℕ
+unfoldable pub listed : (ℕ → ℕ) → ℕ → List ℕ
 listed f zero = []
 listed f (suc n) = f 0 ∷ listed (λ j. f (suc j)) n
 
@@ -45,26 +45,26 @@ listed-at f (suc n) (suc j) l = listed-at (λ j. f (suc j)) n j (omega arith)
 
 module _ (L : ℕ) (tests : ℕ → ℕ → Against) where
   -- a read of an array, by its tests
-  shown : (ℕ → ℕ → ℕ) → ℕ → List ℕ → Against → Reply
+  unfoldable pub shown : (ℕ → ℕ → ℕ) → ℕ → List ℕ → Against → Reply
   shown a offset buf (Why r) = replyOf (Refused r) 0 buf
   shown a offset buf Fine = replyOf (Done 0) 0 (listed (λ j. a ((offset + j) / L) ((offset + j) % L)) (length buf))
 
   -- what an own call adds to the replies of reads, and the array after it
-  adds : (ℕ → ℕ → ℕ) → Call → List Reply → List Reply
+  unfoldable pub adds : (ℕ → ℕ → ℕ) → Call → List Reply → List Reply
   adds a (Read n offset buf) rs = shown a offset buf (tests offset (length buf)) ∷ rs
   adds a (New pages) rs = rs
   adds a (Child list n offset len) rs = rs
   adds a (Write list n offset bytes) rs = rs
   adds a (Commit list n offset len) rs = rs
 
-  next : (ℕ → ℕ → ℕ) → Call → ℕ → ℕ → ℕ → ℕ
+  unfoldable pub next : (ℕ → ℕ → ℕ) → Call → ℕ → ℕ → ℕ → ℕ
   next a (Write list n offset bytes) done = writeArray L (λ m. a) n offset bytes done n
   next a (Read n offset buf) done = a
   next a (New pages) done = a
   next a (Child list n offset len) done = a
   next a (Commit list n offset len) done = a
 
-  pub replay : (ℕ → ℕ → ℕ) → List Event → List Reply
+  unfoldable pub replay : (ℕ → ℕ → ℕ) → List Event → List Reply
   replay a [] = []
   replay a (e ∷ es) = adds a (e .call) (replay (next a (e .call) (e .reply .done)) es)
 
@@ -76,7 +76,7 @@ tests-same L s offset len = rw (s .size, s .policy)
 module _ (L : ℕ) (tests : ℕ → ℕ → Against) (o : ℕ) (a : ℕ → ℕ → ℕ) (A : Arrays) (p : Pool) (P : Private L A p) (live : Leaf (p .nodes) o)
     (alike : (offset len : ℕ) → againstReading L (p .nodes) o offset len ≡ tests offset len) (reads : (i k : ℕ) → A o i k ≡ a i k) where
   -- a read of the object gives its array
-  read-shown : (offset : ℕ) (buf : List ℕ) → stepBy L p (Read o offset buf) .reply ≡ shown L tests a offset buf (tests offset (length buf))
+  pub read-shown : (offset : ℕ) (buf : List ℕ) → stepBy L p (Read o offset buf) .reply ≡ shown L tests a offset buf (tests offset (length buf))
   unfolding stepBy shown
   read-shown offset buf =
       read-leaf L A p P o offset buf live (λ (r : Filled) (x : Against). replyOf (r .answer) 0 (r .buf) ≡ shown L tests a offset buf x)
@@ -93,7 +93,7 @@ module _ (L : ℕ) (tests : ℕ → ℕ → Against) (o : ℕ) (a : ℕ → ℕ 
           rw (w .answer, e)
 
   -- the array after an own write
-  write-next : (list : List ℕ) (offset : ℕ) (bytes : List ℕ) (i k : ℕ)
+  pub write-next : (list : List ℕ) (offset : ℕ) (bytes : List ℕ) (i k : ℕ)
       → arraysBy L A p (Write list o offset bytes) o i k ≡ next L tests a (Write list o offset bytes) (stepBy L p (Write list o offset bytes) .reply .done) i k
   unfolding writeArray next
   write-next list offset bytes i k = rw (reads i k)
