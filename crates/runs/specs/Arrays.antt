@@ -7,7 +7,8 @@ use Rattle.pool.specs.declared.answer.Answer.{Answer}
 use Rattle.pool.specs.declared.answer.Answer.the-variants.{Done, Refused}
 use Rattle.births.specs.Arrays.{blankArray, cloneArray}
 use Rattle.arrays.specs.Arrays.{writeArray}
-use Rattle.runs.specs.Runs.{Call, Reply, Event}
+use Rattle.tables.specs.Pool.{Pool}
+use Rattle.runs.specs.Runs.{Call, Event, historyOf}
 use Rattle.runs.specs.Runs.Call.{New, Child, Read, Write, Commit}
 
 -- byte k of page i of object n
@@ -31,6 +32,10 @@ arrayBy L A (Commit list n offset len) answer done = A
 unfoldable pub arraysAfter : ℕ → Arrays → List Event → Arrays
 arraysAfter L A [] = A
 arraysAfter L A (e ∷ es) = arraysAfter L (arrayBy L A (e .call) (e .reply .answer) (e .reply .done)) es
+
+-- after a run on a fresh pool, whose objects are yet to come
+abbrev pub arraysOf : ℕ → Pool → List Call → Arrays
+arraysOf L p run = arraysAfter L zeros (historyOf L p run)
 
 -- byte x of object n
 abbrev pub byteAt : ℕ → Arrays → ℕ → ℕ → ℕ

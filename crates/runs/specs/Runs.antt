@@ -3,7 +3,7 @@ use mathlib.Core.List.{List, [], _∷_}
 use Prim.Native.Nat.{ℕ}
 use Rattle.tables.specs.Pool.{Pool}
 use Rattle.pool.specs.declared.answer.Answer.{Answer}
-use Rattle.pool.specs.Calls.{new}
+use Rattle.pool.specs.Calls.{start, new}
 use Rattle.child.specs.Child.{createChild}
 use Rattle.ranges.specs.Ranges.{read, write, commit}
 
@@ -56,3 +56,10 @@ eventOf c r = record { call = c; reply = r }
 unfoldable pub history : ℕ → Pool → List Call → List Event
 history L p [] = []
 history L p (c ∷ cs) = eventOf c (stepBy L p c .reply) ∷ history L (stepBy L p c .pool) cs
+
+-- a run on a fresh pool, which start made of the tables and the memory lent
+abbrev pub poolAfter : ℕ → Pool → List Call → Pool
+poolAfter L p run = after L (start L p .pool) run
+
+abbrev pub historyOf : ℕ → Pool → List Call → List Event
+historyOf L p run = history L (start L p .pool) run
