@@ -1,5 +1,5 @@
 -- What a call on a sound pool is never answered. Assumes nothing.
-use mathlib.Core.Path.{_≡_, refl, subst}
+use mathlib.Core.Path.{_≡_, subst}
 use mathlib.Core.Bool.{Bool, true, false, _&&_}
 use mathlib.Core.List.{List}
 use Prim.Native.Nat.{ℕ, _+_, _*_, _/_}
@@ -9,7 +9,6 @@ use Rattle.logic.specs.Pick.{pick}
 use Rattle.logic.specs.declared.Found.{Found}
 use Rattle.logic.specs.declared.Found.the-variants.{At, Nothing}
 use Rattle.blocks.specs.Blocks.{alignedOf}
-use Rattle.node.specs.declared.Node.{Node}
 use Rattle.tables.specs.Pool.{Pool}
 use Rattle.tables.specs.Tables.{nodeOf, freeNodeIn, freeNodeFrom}
 use Rattle.sound.specs.Facts.{Sound}
@@ -18,11 +17,10 @@ use Rattle.pool.specs.declared.answer.Answer.{Answer}
 use Rattle.pool.specs.declared.answer.Answer.the-variants.{Done, Refused}
 use Rattle.pool.specs.declared.answer.Refusal.{Refusal}
 use Rattle.pool.specs.declared.answer.Refusal.the-variants.{OutOfRange, BadState, InvalidArgs, NoMemory, NotSupported, Unavailable, BadPool, NoObject, NoNode, NoRoom, Stopped, PinLedger}
-use Rattle.pool.specs.declared.answer.Against.{Against}
 use Rattle.pool.specs.declared.answer.Against.the-variants.{Why, Nothing as Fine}
 use Rattle.pool.specs.Answers.{unless}
 use Rattle.pool.specs.Calls.{refused, leafAt, newLeaf, new}
-use Rattle.commit.specs.Noted.{Said, refusedOf, roomOf}
+use Rattle.commit.specs.Noted.{refusedOf, roomOf}
 use Rattle.child.specs.Child.{born, againstChild, withBoth, withChild, numbered, childAt, createChild}
 use Rattle.arrays.specs.Calls.{ByTests}
 use Rattle.runs.proofs.Objects.{on-leaf}

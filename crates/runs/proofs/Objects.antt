@@ -17,7 +17,7 @@ use Rattle.sound.specs.Facts.{Leaf, Sound}
 use Rattle.soundness.proofs.Records.{node-out}
 use Rattle.soundness.proofs.Soundness.{facts-sound}
 use Rattle.pool.specs.declared.answer.Refusal.{Refusal}
-use Rattle.pool.specs.declared.answer.Refusal.the-variants.{BadPool, NoObject}
+use Rattle.pool.specs.declared.answer.Refusal.the-variants.{NoObject}
 use Rattle.pool.specs.declared.answer.Against.{Against}
 use Rattle.pool.specs.declared.answer.Against.the-variants.{Why, Nothing as Fine}
 use Rattle.pool.specs.Answers.{unless}

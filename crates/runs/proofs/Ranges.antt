@@ -1,14 +1,12 @@
 -- Read, write and commit on a pool of private arrays: their answers, and that they leave the nodes. Assumes nothing.
-use mathlib.Core.Path.{_≡_, refl, ap, subst}
+use mathlib.Core.Path.{_≡_, refl, subst}
 use mathlib.Core.List.{List}
 use mathlib.Core.Logic.{_⊎_, ⊎-elim}
-use Prim.Native.Nat.{ℕ, _+_, _*_, _/_, _≤_}
+use Prim.Native.Nat.{ℕ}
 use lib.ListN.{length}
 use Rattle.tables.specs.Pool.{Pool}
-use Rattle.tables.specs.Tables.{nodeOf}
 use Rattle.sound.specs.Facts.{Leaf}
-use Rattle.pool.specs.declared.answer.Answer.{Answer}
-use Rattle.pool.specs.declared.answer.Answer.the-variants.{Done, Refused}
+use Rattle.pool.specs.declared.answer.Answer.the-variants.{Refused}
 use Rattle.pool.specs.declared.answer.Refusal.{Refusal}
 use Rattle.pool.specs.declared.answer.Refusal.the-variants.{NoMemory}
 use Rattle.pool.specs.declared.answer.Against.{Against}
@@ -16,7 +14,6 @@ use Rattle.pool.specs.declared.answer.Against.the-variants.{Why, Nothing as Fin
 use Rattle.ranges.specs.Pages.{readOf}
 use Rattle.ranges.specs.Ranges.{Ranging, refusedRange, Filled, unfilled, filled, againstReading, againstWriting, againstCommitting, readRange, readAt, read, writeThrough, writeAt, write, commitThrough, commitAt, commit}
 use Rattle.isolation.specs.Private.{Private}
-use Rattle.arrays.specs.Arrays.{touched}
 use Rattle.arrays.specs.Outcomes.{Reads, Granted, Commits, Writes}
 use Rattle.arrays.specs.Outcomes as O
 use Rattle.arrays.specs.Calls.{ByTests, Called}
@@ -27,12 +24,11 @@ use Rattle.arrays.proofs.Commit.{commit-through}
 use Rattle.arrays.proofs.Called.{Tests, Inside, reading-tests, writing-tests, committing-tests}
 use Rattle.arrays.proofs.Calls.{read-called, write-called, commit-called}
 use Rattle.arrays.proofs.Exact.{write-ends, short-refused}
-use Rattle.runs.specs.Runs.{Call}
 use Rattle.runs.specs.Runs.Call.{Write, Commit}
 use Rattle.runs.specs.Arrays.{Arrays, Given}
 use Rattle.runs.specs.Memory.{Short, Lacks}
 use Rattle.runs.proofs.Objects.{on-leaf, leaf-does, tested}
-use Rattle.runs.proofs.Answered.{Fair, Answers, tests-fair, answers-done}
+use Rattle.runs.proofs.Answered.{Answers, tests-fair, answers-done}
 
 -- what the tests found, and why they refuse
 why-tests : {a : Against} (H : Type 0) {r : Refusal} → Tests a H → a ≡ Why r → ByTests r

@@ -2,7 +2,7 @@
 use mathlib.Core.Path.{_≡_, refl, sym, ap, _∙_, subst}
 use mathlib.Core.Bool.{Bool, true, false}
 use mathlib.Core.List.{List}
-use Prim.Native.Nat.{ℕ, _+_, _/_, _≤_}
+use Prim.Native.Nat.{ℕ, _/_, _≤_}
 use lib.Dec.{leb}
 use lib.ListN.{getD}
 use Rattle.logic.specs.Pick.{pick}
@@ -18,7 +18,7 @@ use Rattle.pool.specs.declared.answer.Refusal.the-variants.{InvalidArgs, BadPoo
 use Rattle.sound.specs.Sound.{sound}
 use Rattle.pool.specs.Calls.{refused, leafAt, newLeaf, new}
 use Rattle.commit.specs.Noted.{Said, refusedOf}
-use Rattle.child.specs.Child.{bornNodes, born, againstChild, numbered, childAt, createChild}
+use Rattle.child.specs.Child.{born, againstChild, numbered, childAt, createChild}
 use Rattle.births.proofs.Words.{node-away}
 use Rattle.births.proofs.First.{found-free}
 use Rattle.births.proofs.Cloned.{Cloned, leaf-live, live-old}

@@ -1,16 +1,11 @@
 -- What the reads of an object give follows from its own calls and its array at their start. Assumes nothing.
 use mathlib.Core.Path.{_≡_, refl, sym, ap, _∙_}
-use mathlib.Core.Bool.{Bool, true, false}
 use mathlib.Core.List.{List, [], _∷_}
 use Prim.Native.Nat.{ℕ, zero, suc, _+_, _/_, _%_, _<_}
 use native.Mathlib.Omega.{arith}
-use lib.Dec.{eqb}
 use lib.ListN.{length, getD}
 use lib.Seq.{ext-getD}
-use borrow.Author.Tests.{eqb-true, eqb-false}
-use Rattle.logic.specs.Pick.{pick}
 use Rattle.tables.specs.Pool.{Pool}
-use Rattle.tables.specs.Tables.{nodeOf}
 use Rattle.sound.specs.Facts.{Leaf}
 use Rattle.pool.specs.declared.answer.Answer.the-variants.{Done, Refused}
 use Rattle.pool.specs.declared.answer.Against.{Against}
@@ -19,13 +14,13 @@ use Rattle.ranges.specs.Ranges.{Filled, againstReading, cachedOf, insideOf}
 use Rattle.isolation.specs.Private.{Private}
 use Rattle.arrays.specs.Arrays.{writeArray}
 use Rattle.arrays.specs.Outcomes.{Reads}
-use Rattle.runs.specs.Runs.{Call, Reply, replyOf, stepBy, Event, history}
+use Rattle.runs.specs.Runs.{Call, Reply, replyOf, stepBy, Event}
 use Rattle.runs.specs.Runs.Call.{New, Child, Read, Write, Commit}
 use Rattle.runs.specs.Arrays.{Arrays}
-use Rattle.runs.specs.Own.{own, readsOf}
+use Rattle.runs.specs.Own.{own}
 use Rattle.runs.proofs.Records.{Same}
 use Rattle.runs.proofs.Ranges.{read-leaf}
-use Rattle.runs.proofs.Steps.{arraysBy, step-private, step-same, step-live, step-keeps}
+use Rattle.runs.proofs.Steps.{arraysBy}
 
 -- the first n of the numbers f 0, f 1, ..
 unfoldable pub listed : (ℕ → ℕ) → ℕ → List ℕ
@@ -88,8 +83,8 @@ module _ (L : ℕ) (tests : ℕ → ℕ → Against) (o : ℕ) (a : ℕ → ℕ 
           let f : ℕ → ℕ = λ j. a ((offset + j) / L) ((offset + j) % L) in
           let n = listed-length f (length buf) in
           let e : r .buf ≡ listed f (length buf) =
-              ext-getD 0 (r .buf) (listed f (length buf)) (w .size ∙ sym n)
-              (λ j l. let h : j < length buf = rw (w .size) at l in w .bytes j h ∙ reads ((offset + j) / L) ((offset + j) % L) ∙ sym (listed-at f (length buf) j h)) in
+          ext-getD 0 (r .buf) (listed f (length buf)) (w .size ∙ sym n)
+          (λ j l. let h : j < length buf = rw (w .size) at l in w .bytes j h ∙ reads ((offset + j) / L) ((offset + j) % L) ∙ sym (listed-at f (length buf) j h)) in
           rw (w .answer, e)
 
   -- the array after an own write

@@ -13,9 +13,9 @@ use Rattle.pool.specs.Calls.{start}
 use Rattle.ranges.specs.Ranges.{againstReading}
 use Rattle.isolation.specs.Private.{Private}
 use Rattle.births.proofs.Arrays.{start-arrays}
-use Rattle.runs.specs.Runs.{Call, Reply, Step, stepBy, after, Event, eventOf, history, poolAfter, historyOf}
+use Rattle.runs.specs.Runs.{Call, Step, stepBy, after, Event, eventOf, history, poolAfter, historyOf}
 use Rattle.runs.specs.Runs.Call.{Read, Write}
-use Rattle.runs.specs.Arrays.{Arrays, zeros, arrayBy, arraysAfter, arraysOf, Given}
+use Rattle.runs.specs.Arrays.{Arrays, zeros, arraysAfter, arraysOf, Given}
 use Rattle.runs.specs.Memory.{Lacks}
 use Rattle.runs.specs.Own.{makes, own, readsOf}
 use Rattle.runs.proofs.Answered.{answers-refused}
@@ -77,9 +77,10 @@ module _ (L : ℕ) (p : Pool) (lent : Lengths L p) (before : List Call) where
 
   -- NO_MEMORY exactly if the call's pages need more frames than are free
   pub no-memory : (c : Call) → (nextStep c .reply .answer ≡ Refused NoMemory → Lacks L (poolAfter L p before) c) × (Lacks L (poolAfter L p before) c → nextStep c .reply .answer ≡ Refused NoMemory)
-  no-memory c =
-      (λ e. answers-refused (Lacks L (poolAfter L p before) c) (step-answers L (arraysOf L p before) (poolAfter L p before) run-private c) e,
-      step-lacks L (arraysOf L p before) (poolAfter L p before) run-private c)
+  no-memory c = (
+    λ e. answers-refused (Lacks L (poolAfter L p before) c) (step-answers L (arraysOf L p before) (poolAfter L p before) run-private c) e,
+    step-lacks L (arraysOf L p before) (poolAfter L p before) run-private c,
+  )
 
   -- two runs: alike up to and with the call that makes object o, and then in o's own calls and its writes' replies: they read it the same bytes
   pub two-runs : (birth : Call) (o : ℕ) → makes birth ≡ true → nextStep birth .reply .answer ≡ Done o
@@ -91,5 +92,5 @@ module _ (L : ℕ) (p : Pool) (lent : Lengths L p) (before : List Call) where
       let tests = againstReading L (q .nodes) o in
       let a = arraysBy L A r birth o in
       let by : (run : List Call) → readsOf o (history L q run) ≡ replay L tests a (own o (history L q run)) =
-          λ run. follows L tests o run a (arraysBy L A r birth) q (step-private L A r run-private birth) (step-makes L A r run-private birth o m e) (λ offset len. refl) (λ i k. refl) in
+      λ run. follows L tests o run a (arraysBy L A r birth) q (step-private L A r run-private birth) (step-makes L A r run-private birth o m e) (λ offset len. refl) (λ i k. refl) in
       by one ∙ ap (replay L tests a) alike ∙ sym (by two)
