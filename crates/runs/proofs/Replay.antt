@@ -17,7 +17,6 @@ use Rattle.arrays.specs.Outcomes.{Reads}
 use Rattle.runs.specs.Runs.{Call, Reply, replyOf, stepBy, Event}
 use Rattle.runs.specs.Runs.Call.{New, Child, Read, Write, Commit}
 use Rattle.runs.specs.Arrays.{Arrays}
-use Rattle.runs.specs.Own.{own}
 use Rattle.runs.proofs.Records.{Same}
 use Rattle.runs.proofs.Ranges.{read-leaf}
 use Rattle.runs.proofs.Steps.{arraysBy}

@@ -6,7 +6,8 @@ use mathlib.Core.List.{List, [], _∷_, _++_}
 use Prim.Native.Nat.{ℕ}
 use Rattle.tables.specs.Pool.{Pool}
 use Rattle.sound.specs.Facts.{Leaf, Lengths}
-use Rattle.soundness.proofs.Soundness.{lengths-mean}
+use Rattle.sound.specs.Sound.{sound}
+use Rattle.soundness.proofs.Soundness.{lengths-mean, facts-sound}
 use Rattle.pool.specs.declared.answer.Answer.the-variants.{Done, Refused}
 use Rattle.pool.specs.declared.answer.Refusal.the-variants.{NoMemory, BadPool, Stopped}
 use Rattle.pool.specs.Calls.{start}
@@ -49,6 +50,10 @@ module _ (L : ℕ) (p : Pool) (lent : Lengths L p) (before : List Call) where
   -- the pool is sound, and every object reads its array of the history so far: zeros, copies and the bytes that its own writes call done
   pub run-private : Private L (arraysOf L p before) (poolAfter L p before)
   run-private = private-from L zeros (start L p .pool) (start-arrays L zeros p (lengths-mean L p .test lent)) before
+
+  -- so that the sound test, which heads every call, holds
+  pub run-sound : sound L (poolAfter L p before) ≡ true
+  run-sound = facts-sound L (poolAfter L p before) (run-private .sound)
 
   -- the call that comes next
   abbrev pub nextStep : Call → Step
