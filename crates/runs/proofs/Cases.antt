@@ -9,7 +9,7 @@ use Rattle.arrays.specs.Arrays.{writeArray}
 use Rattle.runs.specs.Runs.{replyOf, Event, eventOf}
 use Rattle.runs.specs.Runs.Call.{New, Child, Read, Write}
 use Rattle.runs.specs.Arrays.{zeros, arraysAfter, byteAt}
-use Rattle.runs.specs.Own.{blank, own, readsOf}
+use Rattle.runs.specs.Own.{nothing, own, readsOf}
 
 -- pages of 4 bytes: object 0 of two pages is written, object 1 copies its second page, and a write over both pages of 0 gets as far as its first
 pub told : List Event
@@ -17,7 +17,7 @@ told =
     eventOf (New 2) (replyOf (Done 0) 0 [])
     ∷ eventOf (Write [] 0 3 (1 ∷ 2 ∷ 3 ∷ [])) (replyOf (Done 3) 3 [])
     ∷ eventOf (Child [] 0 4 4) (replyOf (Done 1) 0 [])
-    ∷ eventOf (Write [] 0 2 (7 ∷ 8 ∷ 9 ∷ [])) (replyOf (Refused NoMemory) 2 [])
+    ∷ eventOf (Write (6 ∷ []) 0 2 (7 ∷ 8 ∷ 9 ∷ [])) (replyOf (Refused NoMemory) 2 [])
     ∷ eventOf (Read 1 0 (5 ∷ 5 ∷ 5 ∷ [])) (replyOf (Done 0) 0 (2 ∷ 3 ∷ 0 ∷ []))
     ∷ []
 
@@ -27,11 +27,15 @@ arrays-told : (byteAt 4 (arraysAfter 4 zeros told) 0 1 ≡ 0) × (byteAt 4 (arra
 unfolding told arraysAfter blankArray cloneArray writeArray
 arrays-told = (refl, refl, refl, refl, refl, refl, refl)
 
--- a call belongs to the object it names: create_child to the one that is copied
+-- a call belongs to the object that it names, create_child to the one that is copied; what lent lists held before doesn't count
 own-told : own 0 told
-    ≡ eventOf (Write [] 0 3 (1 ∷ 2 ∷ 3 ∷ [])) (replyOf (Done 3) 3 []) ∷ eventOf (Child [] 0 4 4) blank ∷ eventOf (Write [] 0 2 (7 ∷ 8 ∷ 9 ∷ [])) (replyOf (Refused NoMemory) 2 []) ∷ []
+    ≡ eventOf (Write [] 0 3 (1 ∷ 2 ∷ 3 ∷ [])) (replyOf (Done 3) 3 []) ∷ eventOf (Child [] 0 4 4) nothing ∷ eventOf (Write [] 0 2 (7 ∷ 8 ∷ 9 ∷ [])) (replyOf (Refused NoMemory) 2 []) ∷ []
 unfolding told own
 own-told = refl
+
+own-read : own 1 told ≡ eventOf (Read 1 0 (0 ∷ 0 ∷ 0 ∷ [])) nothing ∷ []
+unfolding told own
+own-read = refl
 
 reads-told : (readsOf 1 told ≡ replyOf (Done 0) 0 (2 ∷ 3 ∷ 0 ∷ []) ∷ []) × (readsOf 0 told ≡ [])
 unfolding told readsOf

@@ -5,6 +5,7 @@ use mathlib.Core.List.{List, [], _∷_}
 use Prim.Native.Nat.{ℕ}
 use native.Mathlib.Omega.{arith}
 use lib.Dec.{eqb}
+use lib.ListN.{length, length-replicate}
 use borrow.Author.Tests.{eqb-true, eqb-false}
 use Rattle.logic.specs.Pick.{pick}
 use Rattle.tables.specs.Pool.{Pool}
@@ -12,10 +13,10 @@ use Rattle.sound.specs.Facts.{Leaf}
 use Rattle.pool.specs.declared.answer.Against.{Against}
 use Rattle.ranges.specs.Ranges.{againstReading}
 use Rattle.isolation.specs.Private.{Private}
-use Rattle.runs.specs.Runs.{Call, Reply, stepBy, Event, eventOf, history}
+use Rattle.runs.specs.Runs.{Call, Reply, stepBy, Event, history}
 use Rattle.runs.specs.Runs.Call.{New, Child, Read, Write, Commit}
 use Rattle.runs.specs.Arrays.{Arrays}
-use Rattle.runs.specs.Own.{isOn, isRead, ofWrite, own, readsOf}
+use Rattle.runs.specs.Own.{isOn, isRead, known, own, got, readsOf}
 use Rattle.runs.proofs.Steps.{arraysBy, step-private, step-same, step-live, step-keeps}
 use Rattle.runs.proofs.Replay.{adds, next, replay, tests-same, read-shown, write-next}
 
@@ -28,7 +29,7 @@ module _ (L : ℕ) (tests : ℕ → ℕ → Against) (o : ℕ) where
     Rest c = (b : ℕ → ℕ → ℕ) → ((i k : ℕ) → arraysBy L A p c o i k ≡ b i k) → rs ≡ replay L tests b es
 
     abbrev Goes : Call → Bool → Bool → Reply → Type 0
-    Goes c on read r = pick read (r ∷ rs) rs ≡ replay L tests a (pick on (eventOf c (ofWrite c r) ∷ es) es)
+    Goes c on read r = pick read (got (r .answer) (r .buf) ∷ rs) rs ≡ replay L tests a (pick on (known c r ∷ es) es)
 
     -- a call that is no write of o leaves its array
     still : (c : Call) → ((list : List ℕ) (offset : ℕ) (bytes : List ℕ) → c ≡ Write list o offset bytes → ⊥) → Rest c → rs ≡ replay L tests a es
@@ -36,11 +37,11 @@ module _ (L : ℕ) (tests : ℕ → ℕ → Against) (o : ℕ) where
 
     read-by : (n offset : ℕ) (buf : List ℕ) (b : Bool) → eqb n o ≡ b → rs ≡ replay L tests a es → Goes (Read n offset buf) b b (stepBy L p (Read n offset buf) .reply)
     unfolding replay adds next
-    read-by n offset buf true t e = rw (eqb-true n o t, read-shown L tests o a A p P live alike reads offset buf, e)
+    read-by n offset buf true t e = rw (eqb-true n o t, length-replicate {A = ℕ} (length buf) 0, read-shown L tests o a A p P live alike reads offset buf, e)
     read-by n offset buf false t e = e
 
     write-by : (list : List ℕ) (n offset : ℕ) (bytes : List ℕ) (b : Bool) → eqb n o ≡ b → Rest (Write list n offset bytes) → Goes (Write list n offset bytes) b false (stepBy L p (Write list n offset bytes) .reply)
-    unfolding replay adds
+    unfolding replay adds next
     write-by list n offset bytes true t rest = rest (next L tests a (Write list n offset bytes) (stepBy L p (Write list n offset bytes) .reply .done)) by
       where
         by : (i k : ℕ) → arraysBy L A p (Write list n offset bytes) o i k ≡ next L tests a (Write list n offset bytes) (stepBy L p (Write list n offset bytes) .reply .done) i k

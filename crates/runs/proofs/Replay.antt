@@ -17,6 +17,7 @@ use Rattle.arrays.specs.Outcomes.{Reads}
 use Rattle.runs.specs.Runs.{Call, Reply, replyOf, stepBy, Event}
 use Rattle.runs.specs.Runs.Call.{New, Child, Read, Write, Commit}
 use Rattle.runs.specs.Arrays.{Arrays}
+use Rattle.runs.specs.Own.{got}
 use Rattle.runs.proofs.Records.{Same}
 use Rattle.runs.proofs.Ranges.{read-leaf}
 use Rattle.runs.proofs.Steps.{arraysBy}
@@ -39,13 +40,13 @@ listed-at f (suc n) (suc j) l = listed-at (λ j. f (suc j)) n j (omega arith)
 
 module _ (L : ℕ) (tests : ℕ → ℕ → Against) where
   -- a read of an array, by its tests
-  unfoldable pub shown : (ℕ → ℕ → ℕ) → ℕ → List ℕ → Against → Reply
-  shown a offset buf (Why r) = replyOf (Refused r) 0 buf
-  shown a offset buf Fine = replyOf (Done 0) 0 (listed (λ j. a ((offset + j) / L) ((offset + j) % L)) (length buf))
+  unfoldable pub shown : (ℕ → ℕ → ℕ) → ℕ → ℕ → Against → Reply
+  shown a offset len (Why r) = replyOf (Refused r) 0 []
+  shown a offset len Fine = replyOf (Done 0) 0 (listed (λ j. a ((offset + j) / L) ((offset + j) % L)) len)
 
   -- what an own call adds to the replies of reads, and the array after it
   unfoldable pub adds : (ℕ → ℕ → ℕ) → Call → List Reply → List Reply
-  adds a (Read n offset buf) rs = shown a offset buf (tests offset (length buf)) ∷ rs
+  adds a (Read n offset buf) rs = shown a offset (length buf) (tests offset (length buf)) ∷ rs
   adds a (New pages) rs = rs
   adds a (Child list n offset len) rs = rs
   adds a (Write list n offset bytes) rs = rs
@@ -70,14 +71,14 @@ tests-same L s offset len = rw (s .size, s .policy)
 module _ (L : ℕ) (tests : ℕ → ℕ → Against) (o : ℕ) (a : ℕ → ℕ → ℕ) (A : Arrays) (p : Pool) (P : Private L A p) (live : Leaf (p .nodes) o)
     (alike : (offset len : ℕ) → againstReading L (p .nodes) o offset len ≡ tests offset len) (reads : (i k : ℕ) → A o i k ≡ a i k) where
   -- a read of the object gives its array
-  pub read-shown : (offset : ℕ) (buf : List ℕ) → stepBy L p (Read o offset buf) .reply ≡ shown L tests a offset buf (tests offset (length buf))
+  pub read-shown : (offset : ℕ) (buf : List ℕ) → let r = stepBy L p (Read o offset buf) .reply in got (r .answer) (r .buf) ≡ shown L tests a offset (length buf) (tests offset (length buf))
   unfolding stepBy shown
   read-shown offset buf =
-      read-leaf L A p P o offset buf live (λ (r : Filled) (x : Against). replyOf (r .answer) 0 (r .buf) ≡ shown L tests a offset buf x)
+      read-leaf L A p P o offset buf live (λ (r : Filled) (x : Against). got (r .answer) (r .buf) ≡ shown L tests a offset (length buf) x)
       (λ r. refl) by
-      ∙ ap (shown L tests a offset buf) (alike offset (length buf))
+      ∙ ap (shown L tests a offset (length buf)) (alike offset (length buf))
     where
-      by : (r : Filled) → Reads L A p o offset buf r → replyOf (r .answer) 0 (r .buf) ≡ shown L tests a offset buf Fine
+      by : (r : Filled) → Reads L A p o offset buf r → got (r .answer) (r .buf) ≡ shown L tests a offset (length buf) Fine
       by r w =
           let f : ℕ → ℕ = λ j. a ((offset + j) / L) ((offset + j) % L) in
           let n = listed-length f (length buf) in

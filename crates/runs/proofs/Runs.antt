@@ -87,7 +87,8 @@ module _ (L : ℕ) (p : Pool) (lent : Lengths L p) (before : List Call) where
     step-lacks L (arraysOf L p before) (poolAfter L p before) run-private c,
   )
 
-  -- two runs: alike up to and with the call that makes object o, and then in o's own calls and its writes' replies: they read it the same bytes
+  -- two runs, alike up to and with the call that makes object o, and afterwards in o's own calls and what its writes gave: their reads of o give
+  -- the same answers and bytes, whatever else is called
   pub two-runs : (birth : Call) (o : ℕ) → makes birth ≡ true → nextStep birth .reply .answer ≡ Done o
       → (one two : List Call) → let q = nextStep birth .pool in own o (history L q one) ≡ own o (history L q two) → readsOf o (history L q one) ≡ readsOf o (history L q two)
   two-runs birth o m e one two alike =

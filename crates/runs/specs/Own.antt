@@ -3,8 +3,10 @@ use mathlib.Core.Bool.{Bool, true, false}
 use mathlib.Core.List.{List, [], _∷_}
 use Prim.Native.Nat.{ℕ}
 use lib.Dec.{eqb}
+use lib.ListN.{length, replicate}
 use Rattle.logic.specs.Pick.{pick}
-use Rattle.pool.specs.declared.answer.Answer.the-variants.{Done}
+use Rattle.pool.specs.declared.answer.Answer.{Answer}
+use Rattle.pool.specs.declared.answer.Answer.the-variants.{Done, Refused}
 use Rattle.runs.specs.Runs.{Call, Reply, replyOf, Event, eventOf}
 use Rattle.runs.specs.Runs.Call.{New, Child, Read, Write, Commit}
 
@@ -32,23 +34,29 @@ isRead o (Child list n offset len) = false
 isRead o (Write list n offset bytes) = false
 isRead o (Commit list n offset len) = false
 
--- of a write its reply, of another call nothing
-abbrev pub blank : Reply
-blank = replyOf (Done 0) 0 []
+-- what counts of a call on an object: its numbers, the bytes to write and the buffer's length, but no word that a lent list or buffer held before;
+-- and of a write what it gave
+abbrev pub nothing : Reply
+nothing = replyOf (Done 0) 0 []
 
-abbrev pub ofWrite : Call → Reply → Reply
-ofWrite (Write list n offset bytes) r = r
-ofWrite (New pages) r = blank
-ofWrite (Child list n offset len) r = blank
-ofWrite (Read n offset buf) r = blank
-ofWrite (Commit list n offset len) r = blank
+abbrev pub known : Call → Reply → Event
+known (New pages) r = eventOf (New pages) nothing
+known (Child list n offset len) r = eventOf (Child [] n offset len) nothing
+known (Read n offset buf) r = eventOf (Read n offset (replicate (length buf) 0)) nothing
+known (Write list n offset bytes) r = eventOf (Write [] n offset bytes) r
+known (Commit list n offset len) r = eventOf (Commit [] n offset len) nothing
 
--- o's own calls, in order, with their arguments and the replies of its writes
+-- o's own calls, in order
 unfoldable pub own : ℕ → List Event → List Event
 own o [] = []
-own o (e ∷ es) = pick (isOn o (e .call)) (eventOf (e .call) (ofWrite (e .call) (e .reply)) ∷ own o es) (own o es)
+own o (e ∷ es) = pick (isOn o (e .call)) (known (e .call) (e .reply) ∷ own o es) (own o es)
+
+-- what a read gave: its answer, and the bytes if it was accepted
+abbrev pub got : Answer → List ℕ → Reply
+got (Done v) buf = replyOf (Done v) 0 buf
+got (Refused r) buf = replyOf (Refused r) 0 []
 
 -- what the reads of o gave, in order
 unfoldable pub readsOf : ℕ → List Event → List Reply
 readsOf o [] = []
-readsOf o (e ∷ es) = pick (isRead o (e .call)) (e .reply ∷ readsOf o es) (readsOf o es)
+readsOf o (e ∷ es) = pick (isRead o (e .call)) (got (e .reply .answer) (e .reply .buf) ∷ readsOf o es) (readsOf o es)
