@@ -19,7 +19,7 @@ use Rattle.runs.specs.Runs.Call.{Read, Write}
 use Rattle.runs.specs.Arrays.{Arrays, zeros, arraysAfter, arraysOf, Given}
 use Rattle.runs.specs.Memory.{Lacks}
 use Rattle.runs.specs.Own.{makes, own, readsOf}
-use Rattle.runs.proofs.Answered.{answers-refused}
+use Rattle.runs.proofs.Answered.{Answers, answers-refused}
 use Rattle.runs.proofs.Ranges.{read-given}
 use Rattle.runs.proofs.Steps.{arraysBy, step-private, step-answers, step-lacks, step-makes, step-keeps}
 use Rattle.runs.proofs.Replay.{replay}
@@ -74,29 +74,31 @@ module _ (L : ℕ) (p : Pool) (lent : Lengths L p) (before : List Call) where
   only-writes o live c not-own i k =
       arrays-from L zeros (start L p .pool) before c o i k ∙ step-keeps L (arraysOf L p before) (poolAfter L p before) run-private o live c not-own i k
 
+  answered : (c : Call) → Answers (Lacks L (poolAfter L p before) c) (nextStep c .reply .answer)
+  answered c = step-answers L (arraysOf L p before) (poolAfter L p before) run-private c
+
   pub never-bad-pool : (c : Call) → nextStep c .reply .answer ≡ Refused BadPool → ⊥
-  never-bad-pool c e = answers-refused (Lacks L (poolAfter L p before) c) (step-answers L (arraysOf L p before) (poolAfter L p before) run-private c) e
+  never-bad-pool c e = answers-refused (Lacks L (poolAfter L p before) c) (answered c) e
 
   pub never-stopped : (c : Call) → nextStep c .reply .answer ≡ Refused Stopped → ⊥
-  never-stopped c e = answers-refused (Lacks L (poolAfter L p before) c) (step-answers L (arraysOf L p before) (poolAfter L p before) run-private c) e
+  never-stopped c e = answers-refused (Lacks L (poolAfter L p before) c) (answered c) e
 
   -- NO_MEMORY exactly if the call's pages need more frames than are free
   pub no-memory : (c : Call) → (nextStep c .reply .answer ≡ Refused NoMemory → Lacks L (poolAfter L p before) c) × (Lacks L (poolAfter L p before) c → nextStep c .reply .answer ≡ Refused NoMemory)
-  no-memory c = (
-    λ e. answers-refused (Lacks L (poolAfter L p before) c) (step-answers L (arraysOf L p before) (poolAfter L p before) run-private c) e,
-    step-lacks L (arraysOf L p before) (poolAfter L p before) run-private c,
-  )
+  no-memory c = (λ e. answers-refused (Lacks L (poolAfter L p before) c) (answered c) e, step-lacks L (arraysOf L p before) (poolAfter L p before) run-private c)
+
+  -- the reads of an object follow from its array when it was made, and from its own calls
+  reads-replayed : (birth : Call) (o : ℕ) → makes birth ≡ true → nextStep birth .reply .answer ≡ Done o → (run : List Call) → let q = nextStep birth .pool in
+      readsOf o (history L q run) ≡ replay L (againstReading L (q .nodes) o) (arraysBy L (arraysOf L p before) (poolAfter L p before) birth o) (own o (history L q run))
+  reads-replayed birth o m e run =
+      let A = arraysOf L p before in
+      let r = poolAfter L p before in
+      let q = nextStep birth .pool in
+      follows L (againstReading L (q .nodes) o) o run (arraysBy L A r birth o) (arraysBy L A r birth) q
+      (step-private L A r run-private birth) (step-makes L A r run-private birth o m e) (λ offset len. refl) (λ i k. refl)
 
   -- two runs, alike up to and with the call that makes object o, and afterwards in o's own calls and what its writes gave: their reads of o give
   -- the same answers and bytes, whatever else is called
   pub two-runs : (birth : Call) (o : ℕ) → makes birth ≡ true → nextStep birth .reply .answer ≡ Done o
       → (one two : List Call) → let q = nextStep birth .pool in own o (history L q one) ≡ own o (history L q two) → readsOf o (history L q one) ≡ readsOf o (history L q two)
-  two-runs birth o m e one two alike =
-      let A = arraysOf L p before in
-      let r = poolAfter L p before in
-      let q = nextStep birth .pool in
-      let tests = againstReading L (q .nodes) o in
-      let a = arraysBy L A r birth o in
-      let by : (run : List Call) → readsOf o (history L q run) ≡ replay L tests a (own o (history L q run)) =
-      λ run. follows L tests o run a (arraysBy L A r birth) q (step-private L A r run-private birth) (step-makes L A r run-private birth o m e) (λ offset len. refl) (λ i k. refl) in
-      by one ∙ ap (replay L tests a) alike ∙ sym (by two)
+  two-runs birth o m e one two alike = reads-replayed birth o m e one ∙ ap (replay L _ _) alike ∙ sym (reads-replayed birth o m e two)
