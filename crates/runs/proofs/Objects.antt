@@ -1,0 +1,51 @@
+-- A call on an object of a sound pool goes on with a live leaf's own node. Assumes nothing.
+use mathlib.Core.Path.{_≡_, refl, ap}
+use mathlib.Core.Bool.{Bool, true, false}
+use Prim.Native.Nat.{ℕ, _<_}
+use native.Mathlib.Omega.{arith}
+use lib.Dec.{ltb}
+use borrow.Author.Tests.{lt-ltb}
+use Rattle.logic.specs.Pick.{pick}
+use Rattle.logic.specs.declared.Found.the-variants.{At, Nothing}
+use Rattle.logic.proofs.Means.{less, split}
+use Rattle.node.specs.declared.Node.{Node}
+use Rattle.node.specs.Node.{leafOf}
+use Rattle.tables.specs.Pool.{Pool}
+use Rattle.tables.specs.Tables.{nodeOf}
+use Rattle.sound.specs.Sound.{sound}
+use Rattle.sound.specs.Facts.{Leaf, Sound}
+use Rattle.soundness.proofs.Records.{node-out}
+use Rattle.soundness.proofs.Soundness.{facts-sound}
+use Rattle.pool.specs.declared.answer.Refusal.{Refusal}
+use Rattle.pool.specs.declared.answer.Refusal.the-variants.{NoObject}
+use Rattle.pool.specs.declared.answer.Against.{Against}
+use Rattle.pool.specs.declared.answer.Against.the-variants.{Why, Nothing as Fine}
+use Rattle.pool.specs.Answers.{unless}
+use Rattle.pool.specs.Calls.{findObject, atNode, onNode}
+use Rattle.births.proofs.Cloned.{leaf-live}
+
+-- a leaf is one of the 64 nodes
+pub leaf-low : (L : ℕ) (p : Pool) → Sound L p → (n : ℕ) → Leaf (p .nodes) n → n < 64
+leaf-low L p S n leaf =
+    split (less n 64) (λ l. l)
+    (λ out. absurd (leaf-live (p .nodes) n leaf (ap (λ (r : Node). r .kind) (node-out (p .nodes) (S .lengths .nodes) n (omega arith)))))
+
+module _ {R : Type 0} (refuse : Refusal → R) (does : ℕ → R) (L : ℕ) (p : Pool) (S : Sound L p) (object : ℕ) where
+  -- what holds of NO_OBJECT, and of what is done with a live leaf
+  pub on-leaf : (B : R → Type 0) → B (refuse NoObject) → (Leaf (p .nodes) object → B (does object)) → B (onNode L p object refuse does)
+  unfolding onNode findObject atNode
+  on-leaf B none go = rw (facts-sound L p S) (by (ltb object 64) (leafOf (nodeOf (p .nodes) object)) refl)
+    where
+      by : (a b : Bool) → leafOf (nodeOf (p .nodes) object) ≡ b → B (atNode refuse does (pick a (pick b (At object) Nothing) Nothing))
+      by true true h = go h
+      by true false h = none
+      by false b h = none
+
+  pub leaf-does : Leaf (p .nodes) object → onNode L p object refuse does ≡ does object
+  unfolding onNode findObject atNode
+  leaf-does leaf = rw (facts-sound L p S, lt-ltb object 64 (leaf-low L p S object leaf), leaf)
+
+-- tests, and what comes after them
+pub tested : {R : Type 0} (refuse : Refusal → R) (go : R) (B : R → Type 0) (a : Against) → ((r : Refusal) → a ≡ Why r → B (refuse r)) → (a ≡ Fine → B go) → B (unless a refuse go)
+tested refuse go B (Why r) f g = f r refl
+tested refuse go B Fine f g = g refl

@@ -1,0 +1,4 @@
+pub mod Runs
+pub mod Arrays
+pub mod Memory
+pub mod Own
