@@ -24,7 +24,7 @@ pub extern "C" fn goramul_read(
         filledBy r (now (value .exit)) (poolOf (now (nodes .entry)) (now (pages .exit)) (now (used .exit)) (now (mappings .entry)) (now (head .entry)) (now (memory .exit))) (now (buf .exit))
         ≡ givenFilled (read 4096 (poolOf (now (nodes .entry)) (now (pages .entry)) (now (used .entry)) (now (mappings .entry)) (now (head .entry)) (now (memory .entry))) object offset (now (buf .entry))) ⌝ }
 {
-    let answer = ranges::read(
+    let filled = ranges::read(
         nodes,
         pages,
         used,
@@ -35,8 +35,8 @@ pub extern "C" fn goramul_read(
         offset,
         buf,
     );
-    *value = answer.value();
-    answer.code()
+    *value = filled.value();
+    filled.code()
 }
 
 #[no_mangle]
@@ -59,7 +59,7 @@ pub extern "C" fn goramul_write(
         rangeBy r (now (value .exit)) (now (taken .exit)) (poolOf (now (nodes .entry)) (now (pages .exit)) (now (used .exit)) (now (mappings .entry)) (now (head .entry)) (now (memory .exit))) (toldOf (now (notices .exit)) (now (count .exit)))
         ≡ givenRange (write 4096 (poolOf (now (nodes .entry)) (now (pages .entry)) (now (used .entry)) (now (mappings .entry)) (now (head .entry)) (now (memory .entry))) (now (notices .entry)) object offset (now (bytes .entry))) ⌝ }
 {
-    let ranged = ranges::write(
+    let wrote = ranges::write(
         nodes,
         pages,
         used,
@@ -71,10 +71,10 @@ pub extern "C" fn goramul_write(
         offset,
         bytes,
     );
-    let answer = ranged.answer;
-    *taken = ranged.taken as u64;
-    *count = ranged.count as u64;
-    *value = ranged.done;
+    let answer = wrote.answer;
+    *taken = wrote.taken as u64;
+    *count = wrote.count as u64;
+    *value = wrote.done;
     answer.code()
 }
 
@@ -98,7 +98,7 @@ pub extern "C" fn goramul_commit(
         rangeBy r (now (value .exit)) (now (taken .exit)) (poolOf (now (nodes .entry)) (now (pages .exit)) (now (used .exit)) (now (mappings .entry)) (now (head .entry)) (now (memory .exit))) (toldOf (now (notices .exit)) (now (count .exit)))
         ≡ givenRange (commit 4096 (poolOf (now (nodes .entry)) (now (pages .entry)) (now (used .entry)) (now (mappings .entry)) (now (head .entry)) (now (memory .entry))) (now (notices .entry)) object offset len) ⌝ }
 {
-    let ranged = ranges::commit(
+    let committed = ranges::commit(
         nodes,
         pages,
         used,
@@ -110,10 +110,10 @@ pub extern "C" fn goramul_commit(
         offset,
         len,
     );
-    let answer = ranged.answer;
-    *taken = ranged.taken as u64;
-    *count = ranged.count as u64;
-    *value = ranged.done;
+    let answer = committed.answer;
+    *taken = committed.taken as u64;
+    *count = committed.count as u64;
+    *value = committed.done;
     answer.code()
 }
 

@@ -1,10 +1,12 @@
 // The calls for C and Rust: each answers document 01's number and puts the value behind a reference. The static library is made of this crate.
 mod bytes;
+mod children;
 
 pub use bytes::goramul_commit;
 pub use bytes::goramul_peek;
 pub use bytes::goramul_read;
 pub use bytes::goramul_write;
+pub use children::goramul_create_child;
 ghost use mathlib.Core.Path.{_≡_};
 ghost use Rattle.tables.specs.Pool.{poolOf};
 ghost use Rattle.sound.specs.Sound.{sound};
@@ -13,7 +15,6 @@ ghost use Rattle.mapped.specs.Mapped.{appendMapping, removeMapping};
 ghost use Rattle.forecast.specs.Forecast.{forecast};
 ghost use Rattle.notices.specs.Notices.{toldOf};
 ghost use Rattle.commit.specs.Commit.{commitPage};
-ghost use Rattle.child.specs.Child.{createChild};
 ghost use Rattle.exports.specs.Exports.{givenOf, given, notedBy, givenNoted};
 
 #[no_mangle]
@@ -199,43 +200,6 @@ pub extern "C" fn goramul_commit_page(
         object,
         page,
         write,
-    );
-    let answer = noted.answer;
-    *count = noted.count as u64;
-    *value = answer.value();
-    answer.code()
-}
-
-#[no_mangle]
-pub extern "C" fn goramul_create_child(
-    nodes: &mut [u32],
-    pages: &mut [u32],
-    used: &[u8],
-    mappings: &[u32],
-    head: &mut [u32],
-    memory: &[u8],
-    notices: &mut [u32],
-    object: u64,
-    offset: u64,
-    len: u64,
-    count: &mut u64,
-    value: &mut u64,
-) -> u32
-    ensures { λ r. ⌜
-        notedBy r (now (value .exit)) (poolOf (now (nodes .exit)) (now (pages .exit)) (now (used .entry)) (now (mappings .entry)) (now (head .exit)) (now (memory .entry))) (toldOf (now (notices .exit)) (now (count .exit)))
-        ≡ givenNoted (createChild 4096 (poolOf (now (nodes .entry)) (now (pages .entry)) (now (used .entry)) (now (mappings .entry)) (now (head .entry)) (now (memory .entry))) (now (notices .entry)) object offset len) ⌝ }
-{
-    let noted = child::create_child(
-        nodes,
-        pages,
-        used,
-        mappings,
-        head,
-        memory,
-        notices,
-        object,
-        offset,
-        len,
     );
     let answer = noted.answer;
     *count = noted.count as u64;

@@ -1,7 +1,7 @@
 use Rattle.exports.proofs.Laws.{gives-noted}
 use borrow.Author.Needs.{needs}
-use Rattle.exports.proofs.goramul_create_child.Statement.{statement}
-use Rattle.exports.proofs.goramul_create_child.Tie as tie
+use Rattle.exports.proofs.children.goramul_create_child.Statement.{statement}
+use Rattle.exports.proofs.children.goramul_create_child.Tie as tie
 
 returns : tie.Need-returns
 returns c = gives-noted _ _ (c .before .before .before .before .before .before .before .before .before .before .create-child .ensures) (c .before .value .ensures) (c .code .ensures)
