@@ -33,7 +33,7 @@ pub const CALLS: [(&str, Call); 6] = [
     ("remove_mapping", |tables| ffi::remove_mapping(tables, 0, 0)),
     ("forecast", |tables| ffi::forecast(tables.view(), 0, 0, 0)),
     ("commit_page", |tables| {
-        ffi::commit_page(tables, &mut [0; 256], 0, 0, true, &mut 0)
+        ffi::commit_page(tables, &mut [0; 256], 0, 0, true).answer
     }),
 ];
 
