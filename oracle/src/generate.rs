@@ -5,6 +5,7 @@ mod arguments;
 mod bad_lines;
 mod calls;
 mod recipes;
+mod trees;
 
 use crate::pool::{Pool, MOST_NOTICES};
 use crate::random::Random;
@@ -97,14 +98,11 @@ impl Generator {
     }
 
     fn begin_episode(&mut self) {
+        if self.allows(b'k') && self.random.one_in(4) {
+            return self.begin_tree();
+        }
         let style = self.random.pick(&STYLES);
-        let weighted = style.split(' ').map(|word| {
-            let weight = word[1..].parse().expect("a weight");
-            (word.as_bytes()[0], weight)
-        });
-        self.style = weighted
-            .filter(|(letter, _)| self.allows(*letter))
-            .collect();
+        self.set_style(style);
         self.left_in_episode = if self.random.one_in(5) {
             20 + self.random.below(230)
         } else {
@@ -124,6 +122,17 @@ impl Generator {
         };
         let frames = 1 + self.random.below(most.min(self.most_frames));
         self.plan(format!("s {frames}"));
+    }
+
+    /// The letters of an episode's calls, with weights.
+    fn set_style(&mut self, style: &str) {
+        let weighted = style.split(' ').map(|word| {
+            let weight = word[1..].parse().expect("a weight");
+            (word.as_bytes()[0], weight)
+        });
+        self.style = weighted
+            .filter(|(letter, _)| self.allows(*letter))
+            .collect();
     }
 
     fn plan_step(&mut self, pool: &Pool) {

@@ -20,7 +20,7 @@ struct Row {
     most_notices: usize,
     /// Accepted calls by the hidden nodes above their object.
     depths: BTreeMap<usize, usize>,
-    /// Of the calls refused for want of a frame at their first page: hidden nodes above, and frames taken by then.
+    /// Hidden nodes above, and frames taken by then, where no frame was free on the way to one page.
     ends: BTreeSet<(usize, usize)>,
 }
 
@@ -39,21 +39,28 @@ fn run(mut generator: Generator, calls: u64) -> BTreeMap<char, Row> {
     let mut trace = Trace::default();
     for _ in 0..calls {
         let line = generator.line(trace.pool());
-        let numbers = fields(&line, TRACE).map_or(Vec::new(), |(_, numbers)| numbers);
-        let depth = depth(trace.pool(), numbers.first().copied());
+        let depth = depth(trace.pool(), &line);
         let free = mem::free_frames();
         if let Some(answer) = trace.call(&line) {
             let row = rows.entry(line[0].into()).or_default();
-            row.count(&answer, depth, free.saturating_sub(mem::free_frames()));
+            row.count(&answer, depth);
+            // Of the calls that take frames these tell that they ended at their first page.
+            let first_page = b"gwW".contains(&line[0]) && answer.value == 0;
+            if answer.code == Code::NoMemory && first_page {
+                row.ends.insert((depth, free - mem::free_frames()));
+            }
         }
     }
     rows
 }
 
-/// How many hidden nodes stand above an object.
-fn depth(pool: &Pool, object: Option<u64>) -> usize {
+/// How many hidden nodes stand above the object of a line.
+fn depth(pool: &Pool, line: &[u8]) -> usize {
     let state = pool.state();
-    let object = object.filter(|o| *o < NODES as u64);
+    let object = match fields(line, TRACE) {
+        Some((b's' | b'a' | b'n', _)) | None => None,
+        Some((_, numbers)) => numbers.first().copied().filter(|o| *o < NODES as u64),
+    };
     let mut at = object.and_then(|o| state.parent(o as usize));
     let mut above = 0;
     while let Some(node) = at {
@@ -64,15 +71,12 @@ fn depth(pool: &Pool, object: Option<u64>) -> usize {
 }
 
 impl Row {
-    fn count(&mut self, answer: &Answer, depth: usize, taken: usize) {
+    fn count(&mut self, answer: &Answer, depth: usize) {
         *self.codes.entry(answer.code).or_default() += 1;
         self.notices += answer.notices.len();
         self.most_notices = self.most_notices.max(answer.notices.len());
         if answer.code == Code::Ok {
             *self.depths.entry(depth).or_default() += 1;
-        }
-        if answer.code == Code::NoMemory && answer.value == 0 {
-            self.ends.insert((depth, taken));
         }
     }
 
