@@ -4,7 +4,7 @@ mod common;
 
 use common::rules::*;
 use common::*;
-use goramul::ffi;
+use goramul::ffi::{self, Place};
 use goramul::tables::node;
 use goramul::tables::node::{END, KIND, LEFT, OWNER, PARENT, POLICY, RIGHT, SIZE};
 use goramul::{Pool, Refusal, Store};
@@ -174,6 +174,7 @@ fn is_accepted(mut s: Store, name: &str) {
     assert!(ffi::is_sound(s.view()), "{name}");
     for (call, make) in CALLS {
         assert_ne!(make(&mut s.lend()).code, 7, "{name}: {call}");
+        assert_eq!(broken(s.view()), [""; 0], "{name}: {call}");
         assert!(ffi::is_sound(s.view()), "{name}: {call}");
     }
 }
@@ -184,6 +185,10 @@ fn is_refused(mut s: Store, name: &str) {
     for (call, make) in CALLS {
         assert_eq!(make(&mut s.lend()), BAD_POOL, "{name}: {call}");
         assert!(s == before, "{name}: {call}");
+    }
+    for object in 0..64 {
+        let place = ffi::peek(s.view(), &ZEROS, object, 0);
+        assert_eq!(place, Place::Nowhere, "{name}: peek");
     }
 }
 

@@ -1,7 +1,7 @@
 //! generate SEED CALLS [LETTERS [FRAMES]]: prints a random trace, the same for the same words.
 //! LETTERS are the only letters of calls in it, FRAMES the most frames of a pool (1,024).
 
-use oracle::generate::{Generator, LETTERS};
+use oracle::generate::{asked, Generator};
 use oracle::trace::Trace;
 use std::io::{self, BufWriter, Write};
 use std::process::ExitCode;
@@ -18,17 +18,6 @@ fn main() -> ExitCode {
         Ok(()) => ExitCode::SUCCESS,
         Err(_) => ExitCode::FAILURE,
     }
-}
-
-/// What the words ask for; none if they are bad.
-fn asked(words: &[String]) -> Option<(Generator, u64)> {
-    let number = |i: usize| words.get(i).map(|word| word.parse::<u64>().ok());
-    let (seed, calls) = (number(0)??, number(1)??);
-    let frames = number(3).unwrap_or(Some(1024))?;
-    let letters = words.get(2).map_or(LETTERS, String::as_str);
-    let known = letters.chars().all(|letter| LETTERS.contains(letter));
-    let good = words.len() <= 4 && known && !letters.is_empty() && frames > 0;
-    good.then(|| (Generator::new(seed, letters, frames), calls))
 }
 
 fn print(mut generator: Generator, calls: u64) -> io::Result<()> {

@@ -3,10 +3,11 @@
 // Each test program uses a part.
 #![allow(dead_code)]
 
+pub mod ladder;
 pub mod random;
 pub mod rules;
 
-use goramul::ffi::{self, Answer};
+use goramul::ffi::{self, Answer, Noted, Ranged};
 use goramul::tables::node::*;
 use goramul::tables::{MAPPING_WORDS, NEXT_OWNER, NODE_WORDS, ROW_WORDS};
 use goramul::{Store, Tables};
@@ -23,8 +24,8 @@ pub const BAD_POOL: Answer = Answer { code: 7, value: 0 };
 
 type Call = fn(&mut Tables<'_>) -> Answer;
 
-/// Every call that tests the pool.
-pub const CALLS: [(&str, Call); 6] = [
+/// Every call that tests the pool and has a code. Peek has none: it shows nothing.
+pub const CALLS: [(&str, Call); 10] = [
     ("new", |tables| ffi::new(tables, 1)),
     ("len", |tables| ffi::len(tables.view(), 0)),
     ("append_mapping", |tables| {
@@ -33,9 +34,56 @@ pub const CALLS: [(&str, Call); 6] = [
     ("remove_mapping", |tables| ffi::remove_mapping(tables, 0, 0)),
     ("forecast", |tables| ffi::forecast(tables.view(), 0, 0, 0)),
     ("commit_page", |tables| {
-        ffi::commit_page(tables, &mut [0; 256], 0, 0, true, &mut 0)
+        noted(|list| ffi::commit_page(tables, list, 0, 0, true))
+    }),
+    ("create_child", |tables| {
+        noted(|list| ffi::create_child(tables, list, 0, 0, 0))
+    }),
+    ("read", |tables| read(tables, 0, 0, 1)),
+    ("write", |tables| {
+        ranged(|list| ffi::write(tables, list, 0, 0, &[1; 5000]))
+    }),
+    ("commit", |tables| {
+        ranged(|list| ffi::commit(tables, list, 0, 0, 8192))
     }),
 ];
+
+/// A page of zeros, to lend to peek.
+pub const ZEROS: [u8; 4096] = [0; 4096];
+
+/// What lists and buffers hold before a call.
+const BEFORE: u8 = 0xa5;
+
+/// A call lent a list for 256 notices, of which it may write only those that it counts.
+pub fn noted(call: impl FnOnce(&mut [u32]) -> Noted) -> Answer {
+    let mut list = [u32::from(BEFORE); 4 * 256];
+    let noted = call(&mut list);
+    let rest = &list[4 * noted.count as usize..];
+    assert!(rest.iter().all(|word| *word == u32::from(BEFORE)));
+    assert!(noted.answer.code != 7 || noted.count == 0);
+    noted.answer
+}
+
+/// The same of a call that takes frames.
+pub fn ranged(call: impl FnOnce(&mut [u32]) -> Ranged) -> Answer {
+    noted(|list| {
+        let Ranged {
+            answer,
+            taken,
+            count,
+        } = call(list);
+        assert!(answer.code != 7 || taken == 0);
+        Noted { answer, count }
+    })
+}
+
+/// A read of so many bytes, which fills no byte if it is refused.
+pub fn read(tables: &mut Tables<'_>, object: u64, offset: u64, len: usize) -> Answer {
+    let mut buf = vec![BEFORE; len];
+    let answer = ffi::read(tables, object, offset, &mut buf);
+    assert!(answer.code == 0 || buf.iter().all(|byte| *byte == BEFORE));
+    answer
+}
 
 pub fn entry(frame: u32, tag: u32, pins: u32) -> u32 {
     frame + 1 + 4096 * tag + 16384 * pins

@@ -1,10 +1,13 @@
 //! Answers a trace by the library: a call a line on standard input, an answer a line on standard
 //! output. `trace --calls` prints the letters of the calls that the library has.
 
+mod answer;
+mod calls;
 mod driver;
 mod lines;
 
-use driver::{letters, Driver};
+use calls::letters;
+use driver::Driver;
 use std::io::{self, BufRead, BufReader, BufWriter, Write};
 use std::process::ExitCode;
 
