@@ -80,7 +80,7 @@ pub fn bear(
     );
     let answer = Answer::Done(child as u64);
     Noted {
-        answer: answer,
+        answer,
         count: told,
     }
 }

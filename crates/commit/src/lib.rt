@@ -106,10 +106,7 @@ fn commit_at(
     match against {
         Against::Why(why) => {
             let answer = Answer::Refused(why);
-            return Noted {
-                answer: answer,
-                count: 0,
-            };
+            return Noted { answer, count: 0 };
         }
         Against::Nothing => {
             let i = (page % 4294967296) as u32;
@@ -128,7 +125,7 @@ fn commit_at(
             let looked = step.looked;
             let answer = looked_answer(looked);
             return Noted {
-                answer: answer,
+                answer,
                 count: step.count,
             };
         }
@@ -139,10 +136,7 @@ pub fn refused(why: Refusal) -> Noted
     ensures { λ r. ⌜ r ≡ refusedBy why ⌝ }
 {
     let answer = Answer::Refused(why);
-    Noted {
-        answer: answer,
-        count: 0,
-    }
+    Noted { answer, count: 0 }
 }
 
 // The frame of an object's page, for reading or for writing.

@@ -72,8 +72,8 @@ impl PageState {
     {
         let tag = PageStateTag::Owned;
         PageState {
-            frame: frame,
-            tag: tag,
+            frame,
+            tag,
             pin_count: 0,
         }
     }
@@ -83,7 +83,7 @@ impl PageState {
     {
         PageState {
             frame: self.frame,
-            tag: tag,
+            tag,
             pin_count: self.pin_count,
         }
     }
@@ -108,7 +108,7 @@ impl Slot {
         let tag = PageStateTag::of(word / 4096 % 4);
         Slot::Held(PageState {
             frame: low - 1,
-            tag: tag,
+            tag,
             pin_count: word / 16384 % 32,
         })
     }

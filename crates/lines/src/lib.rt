@@ -35,7 +35,7 @@ pub struct Reader {
 impl Line {
     fn new(letter: u8) -> Self {
         Line {
-            letter: letter,
+            letter,
             count: 0,
             a: 0,
             b: 0,
@@ -68,8 +68,8 @@ impl Reader {
         let place = Place::Start;
         let line = Line::new(0);
         Reader {
-            place: place,
-            line: line,
+            place,
+            line,
             digits: 0,
             value: 0,
         }
@@ -79,8 +79,8 @@ impl Reader {
         let place = Place::Fault;
         let line = self.line;
         Reader {
-            place: place,
-            line: line,
+            place,
+            line,
             digits: 0,
             value: 0,
         }
@@ -90,8 +90,8 @@ impl Reader {
     fn begin(self, line: Line) -> Self {
         let place = Place::Number;
         Reader {
-            place: place,
-            line: line,
+            place,
+            line,
             digits: 0,
             value: 0,
         }
@@ -104,8 +104,8 @@ impl Reader {
         let place = Place::Letter;
         let line = Line::new(byte);
         Reader {
-            place: place,
-            line: line,
+            place,
+            line,
             digits: 0,
             value: 0,
         }
@@ -131,8 +131,8 @@ impl Reader {
         let place = Place::Number;
         let line = self.line;
         Reader {
-            place: place,
-            line: line,
+            place,
+            line,
             digits: digits + 1,
             value: tens + more,
         }

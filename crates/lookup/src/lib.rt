@@ -189,16 +189,13 @@ fn hidden_step(
         let told = tell_other(nodes, mappings, notices, count, other, page, unmap);
         let looked = share_or(pages, used, memory, s, tag, node, page, write, unmap);
         return Step {
-            looked: looked,
+            looked,
             count: told,
         };
     }
     tables::clear_state(pages, node, page);
     let looked = Looked::Own(s.frame, unmap);
-    Step {
-        looked: looked,
-        count: count,
-    }
+    Step { looked, count }
 }
 
 // A leaf's mappings are told of a frame that was handed down to it.
@@ -241,10 +238,7 @@ fn settle_page(
     match slot {
         Slot::Empty => {
             let looked = Looked::Zero;
-            return Step {
-                looked: looked,
-                count: count,
-            };
+            return Step { looked, count };
         }
         Slot::Held(s) => {
             let n = tables::node_at(nodes, node);
@@ -269,7 +263,7 @@ fn settle_page(
             let told = tell_leaf(mappings, notices, count, node, page, unmap);
             let looked = Looked::Shared(s.frame);
             return Step {
-                looked: looked,
+                looked,
                 count: told,
             };
         }
@@ -302,37 +296,19 @@ fn take_up(
         ≡ handedBy 4096 (now (nodes .entry)) (now (mappings .entry)) up (workOf (now (pages .entry)) (now (used .entry)) (now (memory .entry)) (toldOf (now (notices .entry)) count)) node page write asker ⌝ }
 {
     match up {
-        Looked::Shared(_) => return Step {
-            looked: up,
-            count: count,
-        },
-        Looked::Zero => return Step {
-            looked: up,
-            count: count,
-        },
-        Looked::NoMemory => return Step {
-            looked: up,
-            count: count,
-        },
-        Looked::Stopped => return Step {
-            looked: up,
-            count: count,
-        },
+        Looked::Shared(_) => return Step { looked: up, count },
+        Looked::Zero => return Step { looked: up, count },
+        Looked::NoMemory => return Step { looked: up, count },
+        Looked::Stopped => return Step { looked: up, count },
         Looked::New(f) => {
             let n = tables::node_at(nodes, node);
             if n.is_hidden() {
                 let looked = Looked::New(f);
-                return Step {
-                    looked: looked,
-                    count: count,
-                };
+                return Step { looked, count };
             }
             keep(pages, node, page, f);
             let looked = Looked::Shared(f);
-            return Step {
-                looked: looked,
-                count: count,
-            };
+            return Step { looked, count };
         }
         Looked::Own(f, unmap) => {
             keep(pages, node, page, f);
@@ -403,10 +379,7 @@ pub fn lookup(
     if asks(n, page) {
         if left == 0 {
             let looked = Looked::Stopped;
-            return Step {
-                looked: looked,
-                count: count,
-            };
+            return Step { looked, count };
         }
         let up = lookup(
             nodes,
@@ -448,8 +421,5 @@ pub fn lookup(
         n.out_of_range(page),
         write,
     );
-    Step {
-        looked: looked,
-        count: count,
-    }
+    Step { looked, count }
 }

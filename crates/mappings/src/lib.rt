@@ -68,9 +68,9 @@ pub fn append(mappings: &mut [u32], object: u32, first: u32, pages: u32) -> Foun
                 Found::At(k) => {
                     let m = Mapping {
                         number: k + 1,
-                        object: object,
-                        first: first,
-                        pages: pages,
+                        object,
+                        first,
+                        pages,
                     };
                     put_mapping(mappings, i, m);
                     return Found::At(k);

@@ -78,7 +78,7 @@ impl Node {
             parent_offset: 0,
             parent_limit: 0,
             size: pages,
-            owner: owner,
+            owner,
             cache_policy: 0,
             pin_count: 0,
         }
@@ -120,20 +120,20 @@ impl Node {
         if self.is_hidden() & (self.left as u64 == link) {
             let tag = PageStateTag::LeftSplit;
             return Side {
-                tag: tag,
+                tag,
                 other: self.right,
             };
         }
         if self.is_hidden() & (self.right as u64 == link) {
             let tag = PageStateTag::RightSplit;
             return Side {
-                tag: tag,
+                tag,
                 other: self.left,
             };
         }
         let tag = PageStateTag::Owned;
         Side {
-            tag: tag,
+            tag,
             other: Node::NONE,
         }
     }
@@ -151,7 +151,7 @@ impl Node {
             parent_offset: first,
             parent_limit: window_end(first, pages, size),
             size: pages,
-            owner: owner,
+            owner,
             cache_policy: 0,
             pin_count: 0,
         }

@@ -79,7 +79,7 @@ fn overlap(m: Mapping, offset: u32, len: u32, op: u32) -> Due
             mapping: m.number - 1,
             first: start - m.first,
             pages: pages as u32,
-            op: op,
+            op,
         });
     }
     Due::Nothing

@@ -75,9 +75,9 @@ fn commit_range(
             Against::Why(r) => {
                 let why = Against::Why(r);
                 return CommitPart {
-                    why: why,
+                    why,
                     rest: page,
-                    count: count,
+                    count,
                 };
             }
             Against::Nothing => {}
@@ -85,9 +85,9 @@ fn commit_range(
     }
     let why = Against::Nothing;
     CommitPart {
-        why: why,
+        why,
         rest: page,
-        count: count,
+        count,
     }
 }
 
@@ -122,7 +122,7 @@ fn commit_through(
     let why = part.why;
     let answer = crate::answer_by(why, 0);
     Ranged {
-        answer: answer,
+        answer,
         done: 0,
         taken: crate::fall(free, frames::free_count(used)),
         count: part.count,

@@ -69,7 +69,7 @@ pub fn refused(why: Refusal) -> Ranged
 {
     let answer = Answer::Refused(why);
     Ranged {
-        answer: answer,
+        answer,
         done: 0,
         taken: 0,
         count: 0,

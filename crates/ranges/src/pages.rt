@@ -91,9 +91,9 @@ pub fn write_page(
         Next::Done => {
             let why = Against::Nothing;
             return WritePart {
-                why: why,
+                why,
                 rest: it,
-                count: count,
+                count,
             };
         }
         Next::Block(b, rest) => {
@@ -116,7 +116,7 @@ pub fn write_page(
                 Against::Why(r) => {
                     let why = Against::Why(r);
                     return WritePart {
-                        why: why,
+                        why,
                         rest: it,
                         count: step.count,
                     };
@@ -124,8 +124,8 @@ pub fn write_page(
                 Against::Nothing => {
                     let why = Against::Nothing;
                     return WritePart {
-                        why: why,
-                        rest: rest,
+                        why,
+                        rest,
                         count: step.count,
                     };
                 }
@@ -169,7 +169,7 @@ pub fn commit_page(
         Against::Why(r) => {
             let why = Against::Why(r);
             return CommitPart {
-                why: why,
+                why,
                 rest: page,
                 count: step.count,
             };
@@ -177,7 +177,7 @@ pub fn commit_page(
         Against::Nothing => {
             let why = Against::Nothing;
             return CommitPart {
-                why: why,
+                why,
                 rest: page + 1,
                 count: step.count,
             };
@@ -272,7 +272,7 @@ pub fn read_page(
     match next {
         Next::Done => {
             let why = Against::Nothing;
-            return ReadPart { why: why, rest: it };
+            return ReadPart { why, rest: it };
         }
         Next::Block(b, rest) => {
             let looked = find_read(nodes, mappings, pages, used, memory, node, b.block as u32);
@@ -281,14 +281,11 @@ pub fn read_page(
             match why {
                 Against::Why(r) => {
                     let why = Against::Why(r);
-                    return ReadPart { why: why, rest: it };
+                    return ReadPart { why, rest: it };
                 }
                 Against::Nothing => {
                     let why = Against::Nothing;
-                    return ReadPart {
-                        why: why,
-                        rest: rest,
-                    };
+                    return ReadPart { why, rest };
                 }
             }
         }

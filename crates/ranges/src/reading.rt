@@ -58,13 +58,13 @@ fn read_range(
         match why {
             Against::Why(r) => {
                 let why = Against::Why(r);
-                return ReadPart { why: why, rest: it };
+                return ReadPart { why, rest: it };
             }
             Against::Nothing => {}
         }
     }
     let why = Against::Nothing;
-    ReadPart { why: why, rest: it }
+    ReadPart { why, rest: it }
 }
 
 fn read_at(

@@ -90,9 +90,9 @@ fn write_range(
             Against::Why(r) => {
                 let why = Against::Why(r);
                 return WritePart {
-                    why: why,
+                    why,
                     rest: it,
-                    count: count,
+                    count,
                 };
             }
             Against::Nothing => {}
@@ -100,9 +100,9 @@ fn write_range(
     }
     let why = Against::Nothing;
     WritePart {
-        why: why,
+        why,
         rest: it,
-        count: count,
+        count,
     }
 }
 
@@ -139,8 +139,8 @@ fn write_through(
     let why = part.why;
     let answer = crate::answer_by(why, done);
     Ranged {
-        answer: answer,
-        done: done,
+        answer,
+        done,
         taken: crate::fall(free, frames::free_count(used)),
         count: part.count,
     }

@@ -156,24 +156,15 @@ pub fn find_page(
     match sought {
         Sought::Shared(f) => {
             let looked = Looked::Shared(f);
-            return Step {
-                looked: looked,
-                count: count,
-            };
+            return Step { looked, count };
         }
         Sought::Zero => {
             let looked = Looked::Zero;
-            return Step {
-                looked: looked,
-                count: count,
-            };
+            return Step { looked, count };
         }
         Sought::Absent => {
             let looked = lookup::make_fresh(pages, used, memory, node, page, false, false, true);
-            return Step {
-                looked: looked,
-                count: count,
-            };
+            return Step { looked, count };
         }
         Sought::Moves(_) => return lookup::lookup(
             nodes,
