@@ -21,7 +21,7 @@ use Rattle.pool.specs.Answers.{unless}
 use Rattle.pool.specs.Calls.{onNode}
 use Rattle.commit.specs.Noted.{Said, notedOf, refusedOf, roomOf}
 
--- the same in the table, where there is a parent
+-- a parent's record relinked in the table, where there is one, 812
 unfoldable pub relinked : List ℕ → ℕ → ℕ → ℕ → List ℕ
 relinked N parent old new =
     pick (eqb parent 0) N (withNode N (parent - 1) (relinkedNode (nodeOf N (parent - 1)) old new))

@@ -17,6 +17,7 @@ ghost use Rattle.notices.specs.Notices.{toldOf};
 ghost use Rattle.commit.specs.Noted.{notedOf};
 ghost use Rattle.child.specs.Child.{againstChild, withChild, numbered, childAt, createChild};
 
+// 64 pages.
 const MAX_LEN: u64 = 262144;
 
 const LAST_OWNER: u32 = 16777215;

@@ -1,13 +1,15 @@
 // The lent tables, read and written at any index: past its end a table reads as 0 (or as a free record), and a write there does nothing.
+mod rows;
+
 use entry::PageState;
 use entry::Slot;
 use logic::Found;
 use node::Node;
+pub use rows::move_row;
 ghost use mathlib.Core.Path.{_≡_};
-ghost use Prim.Native.Nat.{_*_, _≤_};
+ghost use Prim.Native.Nat.{_≤_};
 ghost use lib.ListN.{getD, set};
-ghost use Rattle.logic.specs.Below.{copied, zeroed};
-ghost use Rattle.tables.specs.Tables.{wordOf, withWord, withFive, nodeOf, withNode, entryOf, slotAt, withEntry, withState, withoutState, rowMoved, mappingOf, numberOf, freeNodeIn, freeNodeFrom};
+ghost use Rattle.tables.specs.Tables.{wordOf, withWord, withFive, nodeOf, withNode, entryOf, slotAt, withEntry, withState, withoutState, mappingOf, numberOf, freeNodeIn, freeNodeFrom};
 
 // A mapping in the order of appending: its number + 1 (0: none), its object, and the object's pages that it shows.
 pub struct Mapping {
@@ -137,38 +139,6 @@ pub fn clear_state(pages: &mut [u32], node: u32, page: u32)
     ensures { λ _. ⌜ now (pages .exit) ≡ withoutState (now (pages .entry)) node page ⌝ }
 {
     put_entry(pages, node, page, 0);
-}
-
-fn copy_row(pages: &mut [u32], from: u32, to: u32)
-    ensures { λ _. ⌜ now (pages .exit) ≡ copied (now (pages .entry)) (to * 64) (now (pages .entry)) (from * 64) 64 ⌝ }
-{
-    let a = to as usize * 64;
-    let b = from as usize * 64;
-    let mut k = 0;
-    while k < 64 {
-        let e = at(pages, b + k);
-        put(pages, a + k, e);
-        k += 1;
-    }
-}
-
-fn clear_row(pages: &mut [u32], node: u32)
-    ensures { λ _. ⌜ now (pages .exit) ≡ zeroed (now (pages .entry)) (node * 64) 64 ⌝ }
-{
-    let a = node as usize * 64;
-    let mut k = 0;
-    while k < 64 {
-        put(pages, a + k, 0);
-        k += 1;
-    }
-}
-
-// A node's row of entries goes to another node.
-pub fn move_row(pages: &mut [u32], from: u32, to: u32)
-    ensures { λ _. ⌜ now (pages .exit) ≡ rowMoved (now (pages .entry)) from to ⌝ }
-{
-    copy_row(pages, from, to);
-    clear_row(pages, from);
 }
 
 pub fn mapping_at(mappings: &[u32], place: u32) -> Mapping

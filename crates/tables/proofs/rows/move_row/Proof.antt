@@ -1,7 +1,7 @@
 use Rattle.tables.specs.Tables.{rowMoved}
 use borrow.Author.Needs.{needs}
-use Rattle.tables.proofs.move_row.Statement.{statement}
-use Rattle.tables.proofs.move_row.Tie as tie
+use Rattle.tables.proofs.rows.move_row.Statement.{statement}
+use Rattle.tables.proofs.rows.move_row.Tie as tie
 
 returns : tie.Need-returns
 unfolding rowMoved

@@ -5,8 +5,8 @@ use lib.ListN.{length}
 use Rattle.logic.specs.Below.{copied}
 use Rattle.tables.proofs.Laws.{copy-turn}
 use borrow.Author.Needs.{needs}
-use Rattle.tables.proofs.copy_row.Statement.{statement}
-use Rattle.tables.proofs.copy_row.Tie as tie
+use Rattle.tables.proofs.rows.copy_row.Statement.{statement}
+use Rattle.tables.proofs.rows.copy_row.Tie as tie
 
 abbrev Inv-loop : tie.InvT-loop
 Inv-loop pages₀ from to a b k₀ pages k = (k ≤ 64) × (length pages ≡ length pages₀) × (pages ≡ copied pages₀ (to * 64) pages₀ (from * 64) k)

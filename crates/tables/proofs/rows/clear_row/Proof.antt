@@ -5,8 +5,8 @@ use lib.ListN.{length}
 use Rattle.logic.specs.Below.{zeroed}
 use Rattle.tables.proofs.Laws.{clear-turn}
 use borrow.Author.Needs.{needs}
-use Rattle.tables.proofs.clear_row.Statement.{statement}
-use Rattle.tables.proofs.clear_row.Tie as tie
+use Rattle.tables.proofs.rows.clear_row.Statement.{statement}
+use Rattle.tables.proofs.rows.clear_row.Tie as tie
 
 abbrev Inv-loop : tie.InvT-loop
 Inv-loop pages₀ node a k₀ pages k = (k ≤ 64) × (length pages ≡ length pages₀) × (pages ≡ zeroed pages₀ (node * 64) k)
