@@ -21,7 +21,7 @@ use Rattle.pool.specs.Answers.{unless}
 use Rattle.pool.specs.Calls.{onNode}
 use Rattle.commit.specs.Noted.{Said, notedOf, refusedOf, roomOf}
 
--- a parent's record relinked in the table, where there is one, 812
+-- a parent's record relinked in the table, where there is one, 814
 unfoldable pub relinked : List ℕ → ℕ → ℕ → ℕ → List ℕ
 relinked N parent old new =
     pick (eqb parent 0) N (withNode N (parent - 1) (relinkedNode (nodeOf N (parent - 1)) old new))
@@ -35,7 +35,7 @@ bornNodes N n child hidden first pages owner =
     (nodeOf N n .parent) n hidden)
     n (belowNode (nodeOf N n) hidden)
 
--- the child born: nodes, rows, the next owner number; RemoveWrite to the object's mappings over the child's range, 830
+-- the child born: nodes, rows, the next owner number; RemoveWrite to the object's mappings over the child's range, 831
 unfoldable pub born : Pool → List ℕ → ℕ → ℕ → ℕ → ℕ → ℕ → Said
 born p list n child hidden first pages =
     notedOf (Done child)

@@ -1,4 +1,4 @@
-// The child's birth, after the tests (paged.rs 778 to 835).
+// The child's birth, after the tests (paged.rs 775 to 836).
 use commit::Noted;
 use node::Node;
 use pool::Answer;

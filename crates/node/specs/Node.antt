@@ -59,16 +59,16 @@ sideOf n child =
     pick (hiddenOf n && eqb (n .left) (child + 1)) (sideBy LeftSplit (n .right))
     (pick (hiddenOf n && eqb (n .right) (child + 1)) (sideBy RightSplit (n .left)) (sideBy Owned 0))
 
--- the child: a snapshot of so many pages from `first` on, 780
+-- the child: a snapshot of so many pages from `first` on, 776
 abbrev pub snapshotNode : ℕ → ℕ → ℕ → ℕ → ℕ → Node
 snapshotNode hidden first pages size owner = nodeBy 2 (hidden + 1) 0 0 first (min (first + pages) size) pages owner 0 0
 
--- the hidden node that takes the object's place, its pages and its window, 795
+-- the hidden node that takes the object's place, its pages and its window, 794
 abbrev pub hiddenNode : Node → ℕ → ℕ → Node
 hiddenNode n left right =
     nodeBy 3 (n .parent) (left + 1) (right + 1) (n .«parent_offset») (n .«parent_limit») (n .size) (n .owner) 0 (n .«pin_count»)
 
--- the object below it, with a window over all of it, 825
+-- the object below it, with a window over all of it, 826
 abbrev pub belowNode : Node → ℕ → Node
 belowNode n hidden =
     nodeBy (n .kind) (hidden + 1) (n .left) (n .right) 0 (n .size) (n .size) (n .owner) (n .«cache_policy») (n .«pin_count»)

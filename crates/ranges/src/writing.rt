@@ -28,10 +28,12 @@ fn against_writing(
     ensures { λ r. ⌜ r ≡ againstWriting 4096 (now (nodes .entry)) (now (mappings .entry)) (now (notices .entry)) node offset len ⌝ }
     ensures fits { λ r. ⌜ (r ≡ Fine → offset + len < 17592186044416) ⌝ }
 {
-    if !crate::is_cached(nodes, node) {
+    let cached = crate::is_cached(nodes, node);
+    let inside = crate::is_inside(nodes, node, offset, len);
+    if !cached {
         return Against::Why(Refusal::BadState);
     }
-    if !crate::is_inside(nodes, node, offset, len) {
+    if !inside {
         return Against::Why(Refusal::OutOfRange);
     }
     let range = BlockIter {

@@ -56,7 +56,7 @@ withState pages n i s = withEntry pages n i (entryWord s)
 unfoldable pub withoutState : List ℕ → ℕ → ℕ → List ℕ
 withoutState pages n i = withEntry pages n i 0
 
--- a node's row of entries goes to another node, 809
+-- a node's row of entries goes to another node, 805
 unfoldable pub rowMoved : List ℕ → ℕ → ℕ → List ℕ
 rowMoved P from to = zeroed (copied P (to * 64) P (from * 64) 64) (from * 64) 64
 

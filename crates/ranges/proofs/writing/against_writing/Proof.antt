@@ -6,30 +6,30 @@ use Rattle.ranges.proofs.writing.against_writing.Statement.{statement}
 use Rattle.ranges.proofs.writing.against_writing.Tie as tie
 
 returns : tie.Need-returns
-returns c = (writing-state _ _ _ _ _ _ (c .before .is-cached .ensures) (not-true _ (c .if1 .taken)), other)
+returns c = (writing-state _ _ _ _ _ _ (c .before .before .is-cached .ensures) (not-true _ (c .if1 .taken)), other)
 
 returns-2 : tie.Need-returns-2
-returns-2 c = (writing-out _ _ _ _ _ _ (c .before .before .before .is-cached .ensures) (not-false _ (c .before .before .if1 .left)) (c .before .is-inside .ensures .0) (not-true _ (c .if2 .taken)), other)
+returns-2 c = (writing-out _ _ _ _ _ _ (c .before .before .before .is-cached .ensures) (not-false _ (c .before .if1 .left)) (c .before .before .is-inside .ensures .0) (not-true _ (c .if2 .taken)), other)
 
 add-has-room : tie.Need-add-has-room
-add-has-room c = omega (arith, c .before .is-inside .ensures .1 (not-false _ (c .if2 .left)))
+add-has-room c = omega (arith, c .before .before .is-inside .ensures .1 (not-false _ (c .if2 .left)))
 
 has-room-requires : tie.Need-has-room-requires
-has-room-requires c κs = count-small _ (c .count .ensures) (c .before .before .is-inside .ensures .1 (not-false _ (c .before .if2 .left)))
+has-room-requires c κs = count-small _ (c .count .ensures) (c .before .before .before .is-inside .ensures .1 (not-false _ (c .before .if2 .left)))
 
 returns-3 : tie.Need-returns-3
-returns-3 c = (writing-room _ _ _ _ _ _ (c .before .before .before .before .before .before .is-cached .ensures) (not-false _ (c .before .before .before .before .before .if1 .left)) (c .before .before .before .before .is-inside .ensures .0) (not-false _ (c .before .before .before .if2 .left)) (c .before .before .count .ensures) (c .before .has-room .ensures) (c .if3 .taken), λ h. c .before .before .before .before .is-inside .ensures .1 (not-false _ (c .before .before .before .if2 .left)))
+returns-3 c = (writing-room _ _ _ _ _ _ (c .before .before .before .before .before .before .is-cached .ensures) (not-false _ (c .before .before .before .before .if1 .left)) (c .before .before .before .before .before .is-inside .ensures .0) (not-false _ (c .before .before .before .if2 .left)) (c .before .before .count .ensures) (c .before .has-room .ensures) (c .if3 .taken), λ h. c .before .before .before .before .before .is-inside .ensures .1 (not-false _ (c .before .before .before .if2 .left)))
 
 returns-4 : tie.Need-returns-4
-returns-4 c = (writing-full _ _ _ _ _ _ (c .before .before .before .before .before .before .is-cached .ensures) (not-false _ (c .before .before .before .before .before .if1 .left)) (c .before .before .before .before .is-inside .ensures .0) (not-false _ (c .before .before .before .if2 .left)) (c .before .before .count .ensures) (c .before .has-room .ensures) (c .if3 .left), other)
+returns-4 c = (writing-full _ _ _ _ _ _ (c .before .before .before .before .before .before .is-cached .ensures) (not-false _ (c .before .before .before .before .if1 .left)) (c .before .before .before .before .before .is-inside .ensures .0) (not-false _ (c .before .before .before .if2 .left)) (c .before .before .count .ensures) (c .before .has-room .ensures) (c .if3 .left), other)
 
 pub against-writing-spec : {M : Type 1} → statement M
 against-writing-spec =
     tie.close
     (tie.spec
     (λ c κs. search needs)
-    returns
     (λ c κs. search needs)
+    returns
     returns-2
     add-has-room
     (λ c κs. search needs)
