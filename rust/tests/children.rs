@@ -121,7 +121,8 @@ fn the_objects_mappings_are_told_of_the_childs_range() {
     assert_eq!(refused, Err(Refusal::NoRoom));
 }
 
-/// Children of children down to 31 hidden nodes, each written with its own byte, all read their own.
+/// Children of children down to 31 hidden nodes, each written with its own byte, all read their
+/// own.
 #[test]
 fn a_tower_of_31_keeps_every_byte() {
     let mut pool = Pool::start(1024).unwrap();

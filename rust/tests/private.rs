@@ -1,5 +1,6 @@
-//! An object seen from outside: two pools that are alike in nothing but the writes to one object give the same bytes at every
-//! read of it. Number of frames, other objects, family, mappings, and what is read, committed or cloned in between all differ.
+//! An object seen from outside: two pools that are alike in nothing but the writes to one object
+//! give the same bytes at every read of it. Number of frames, other objects, family, mappings, and
+//! what is read, committed or cloned in between all differ.
 
 mod common;
 
@@ -109,7 +110,8 @@ struct Seen {
     ended: usize,
 }
 
-/// The same write to the object of both pools; whether both answered alike but for the frames that they took.
+/// The same write to the object of both pools; whether both answered alike but for the frames that
+/// they took.
 fn write(sides: &mut [Side; 2], r: &mut Random) -> (bool, bool) {
     let size = sides[0].pool.len(sides[0].object.unwrap()).unwrap();
     let offset = r.below(size + 1);

@@ -8,7 +8,8 @@ const MOST_PAGES: u64 = 64;
 const STYLE: &str = "g12 c8 w24 W8 r10 h8 f4 k12 K2 m4 u2 n2 l1 z6 t3 x4 e3 d3 y1 i1";
 
 impl Generator {
-    /// An episode on a fresh pool that objects of 64 pages fill, up to a few frames, and some children.
+    /// An episode on a fresh pool that objects of 64 pages fill, up to a few frames, and some
+    /// children.
     pub(super) fn begin_full(&mut self) {
         self.set_style(STYLE);
         self.left_in_episode = 5 + self.random.below(25);

@@ -1,5 +1,6 @@
-//! Every object beside a plain array of bytes, through random runs of new, create_child, read, write, commit and
-//! append_mapping, refused ones too. The arrays foretell every answer but NO_MEMORY.
+//! Every object beside a plain array of bytes, through random runs of new, create_child, read,
+//! write, commit and append_mapping, refused ones too. The arrays foretell every answer but
+//! NO_MEMORY.
 
 #[path = "../common/mod.rs"]
 mod common;
