@@ -4,6 +4,7 @@
 mod arguments;
 mod bad_lines;
 mod calls;
+mod full;
 mod recipes;
 mod trees;
 
@@ -100,6 +101,9 @@ impl Generator {
     fn begin_episode(&mut self) {
         if self.allows(b'k') && self.random.one_in(4) {
             return self.begin_tree();
+        }
+        if self.most_frames > 64 && self.random.one_in(64) {
+            return self.begin_full();
         }
         let style = self.random.pick(&STYLES);
         self.set_style(style);

@@ -168,9 +168,10 @@ pub fn commit_page(
     write: bool,
 ) -> Noted {
     let (list, room) = (notices.as_mut_ptr(), notices.len());
-    noted(
-        |count, value| change!(tables => goramul_commit_page(list, room, object, page, write, count, value)),
-    )
+    noted(|count, value| {
+        change!(tables => goramul_commit_page(
+            list, room, object, page, write, count, value))
+    })
 }
 
 /// A child of an object's range, in bytes; the value is its number.
@@ -182,9 +183,10 @@ pub fn create_child(
     len: u64,
 ) -> Noted {
     let (list, room) = (notices.as_mut_ptr(), notices.len());
-    noted(
-        |count, value| change!(tables => goramul_create_child(list, room, object, offset, len, count, value)),
-    )
+    noted(|count, value| {
+        change!(tables => goramul_create_child(
+            list, room, object, offset, len, count, value))
+    })
 }
 
 /// Fills the buffer with an object's bytes from `offset` on; the value is 0.
@@ -202,9 +204,11 @@ pub fn write(
     bytes: &[u8],
 ) -> Ranged {
     let (list, room) = (notices.as_mut_ptr(), notices.len());
-    ranged(
-        |taken, count, value| change!(tables => goramul_write(list, room, object, offset, bytes.as_ptr(), bytes.len(), taken, count, value)),
-    )
+    let (from, len) = (bytes.as_ptr(), bytes.len());
+    ranged(|taken, count, value| {
+        change!(tables => goramul_write(
+            list, room, object, offset, from, len, taken, count, value))
+    })
 }
 
 /// A frame of its own for each page of an object's range, in bytes; the value is 0.
@@ -216,9 +220,10 @@ pub fn commit(
     len: u64,
 ) -> Ranged {
     let (list, room) = (notices.as_mut_ptr(), notices.len());
-    ranged(
-        |taken, count, value| change!(tables => goramul_commit(list, room, object, offset, len, taken, count, value)),
-    )
+    ranged(|taken, count, value| {
+        change!(tables => goramul_commit(
+            list, room, object, offset, len, taken, count, value))
+    })
 }
 
 /// Where one page's bytes are; nowhere also if `zero` isn't a page of zeros.

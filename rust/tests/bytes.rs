@@ -208,7 +208,8 @@ fn peek_shows_a_part_of_the_memory_or_of_the_zero_page() {
     assert!(std::ptr::eq(shown, &pool.view().memory[..4096]));
 }
 
-/// A page that only one side can reach moves to it when that side reads: the frame stays, and no byte changes.
+/// A page that only one side can reach moves to it when that side reads: the frame stays, and no
+/// byte changes.
 #[test]
 fn a_read_moves_a_page_that_only_it_can_reach() {
     let mut s = Store::zeros(2);

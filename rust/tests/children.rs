@@ -121,7 +121,8 @@ fn the_objects_mappings_are_told_of_the_childs_range() {
     assert_eq!(refused, Err(Refusal::NoRoom));
 }
 
-/// Children of children down to 31 hidden nodes, each written with its own byte, all read their own.
+/// Children of children down to 31 hidden nodes, each written with its own byte, all read their
+/// own.
 #[test]
 fn a_tower_of_31_keeps_every_byte() {
     let mut pool = Pool::start(1024).unwrap();
@@ -142,4 +143,18 @@ fn a_tower_of_31_keeps_every_byte() {
     }
     assert!(pool.is_sound());
     assert_eq!(pool.len(Object::from_number(61)), Ok(PAGE_SIZE));
+}
+
+/// Two mappings are live: 8 words are enough, 7 aren't, and words past the notices aren't written.
+#[test]
+fn a_list_need_not_be_whole_notices() {
+    let child = |list: &mut [u32]| ffi::create_child(&mut sample().lend(), list, 3, 0, PAGE_SIZE);
+    let write = |list: &mut [u32]| ffi::write(&mut sample().lend(), list, 3, 0, &[1]);
+    for words in 0..12 {
+        let mut list = vec![9; words];
+        let code = if words < 8 { 10 } else { 0 };
+        assert_eq!(child(&mut list).answer.code, code, "{words}");
+        assert_eq!(write(&mut list).answer.code, code, "{words}");
+        assert_eq!(list, vec![9; words]);
+    }
 }

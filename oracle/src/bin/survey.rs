@@ -1,5 +1,5 @@
-//! survey SEED CALLS [LETTERS [FRAMES]]: what the trace that `generate` prints for these words is made of. A row for
-//! each letter, then where calls ran out of frames.
+//! survey SEED CALLS [LETTERS [FRAMES]]: what the trace that `generate` prints for these words is
+//! made of. A row for each letter, then where calls ran out of frames.
 
 use oracle::generate::{asked, Generator};
 use oracle::kernel_hal::mem;
@@ -20,7 +20,8 @@ struct Row {
     most_notices: usize,
     /// Accepted calls by the hidden nodes above their object.
     depths: BTreeMap<usize, usize>,
-    /// Hidden nodes above, and frames taken by then, where no frame was free on the way to one page.
+    /// Hidden nodes above, and frames taken by then, where no frame was free on the way to one
+    /// page.
     ends: BTreeSet<(usize, usize)>,
 }
 

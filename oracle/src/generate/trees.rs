@@ -1,5 +1,5 @@
-//! Trees up to 31 deep, with frames, windows and mappings at every height, in pools that run out of frames at every point
-//! of a path.
+//! Trees up to 31 deep, with frames, windows and mappings at every height, in pools that run out of
+//! frames at every point of a path.
 
 use super::recipes::Member;
 use super::{Generator, PAGE};
@@ -37,7 +37,8 @@ impl Generator {
         self.plan_children(pages, children as usize);
     }
 
-    /// In a fresh pool the numbers are known: the child's is the lowest free one, its hidden node's the next.
+    /// In a fresh pool the numbers are known: the child's is the lowest free one, its hidden node's
+    /// the next.
     fn plan_children(&mut self, pages: u64, children: usize) {
         let shape = self.random.pick(&[Shape::Newest, Shape::First, Shape::Any]);
         let (mapped, written) = (!self.random.one_in(3), self.random.one_in(4));
@@ -84,7 +85,8 @@ impl Generator {
         (first, 1 + self.random.below(pages - first))
     }
 
-    /// The first write of a page, whose way up is still long; now and then first with a notice list one short.
+    /// The first write of a page, whose way up is still long; now and then first with a notice list
+    /// one short.
     fn plan_reach(&mut self, object: usize, page: u64, mappings: u64) {
         let at = page * PAGE;
         let line = match self.random.below(4) {

@@ -1,6 +1,6 @@
-//! Answers a trace by the library and by the unchanged Rust, and ends with 1 at the first line that differs. After a call
-//! that the library doesn't have, it goes on from the pool that the Rust has then, so that every call is compared on
-//! pools that any call can make.
+//! Answers a trace by the library and by the unchanged Rust, and ends with 1 at the first line that
+//! differs. After a call that the library doesn't have, it goes on from the pool that the Rust has
+//! then, so that every call is compared on pools that any call can make.
 
 #[path = "../../src/bin/trace/answer.rs"]
 mod answer;

@@ -18,15 +18,16 @@ impl Pool<'_> {
         done(ffi::read(&mut self.tables(), object.number(), offset, buf)).map(|_| ())
     }
 
-    /// Writes bytes to an object from `offset` on, page by page. A page that the object doesn't hold
-    /// itself takes a frame: zeros, or a copy of what it reads. What mappings have to be told stands
-    /// in `notices` afterwards, refused or not.
+    /// Writes bytes to an object from `offset` on, page by page. A page that the object doesn't
+    /// hold itself takes a frame: zeros, or a copy of what it reads. What mappings have to be told
+    /// stands in `notices` afterwards, refused or not.
     ///
     /// Refused, with nothing changed: [`Refusal::BadPool`], [`Refusal::NoObject`],
     /// [`Refusal::BadState`] if the object isn't Cached, [`Refusal::OutOfRange`],
     /// [`Refusal::NoRoom`] if the list takes fewer notices than pages touched times live mappings.
-    /// Refused at a page, with the earlier ones done: [`Refusal::NoMemory`], which leaves copies and
-    /// moves made on the page's path, and [`Refusal::Stopped`], which leaves the page as it was.
+    /// Refused at a page, with the earlier ones done: [`Refusal::NoMemory`], which leaves copies
+    /// and moves made on the page's path, and [`Refusal::Stopped`], which leaves the page as it
+    /// was.
     ///
     /// ```
     /// use goramul::{Notices, Pool, Refusal, PAGE_SIZE};
@@ -56,8 +57,8 @@ impl Pool<'_> {
         ranged(ended)
     }
 
-    /// One page's bytes as a read would give them, without a copy and with nothing moved; none where
-    /// a read of the page would be refused.
+    /// One page's bytes as a read would give them, without a copy and with nothing moved; none
+    /// where a read of the page would be refused.
     ///
     /// ```
     /// use goramul::{Notices, Pool};

@@ -6,8 +6,8 @@ use crate::{ffi, Mapping, Object, Refusal};
 impl Pool<'_> {
     /// A mapping of `pages` pages of an object, from its page `first` on.
     ///
-    /// Refused: [`Refusal::BadPool`], [`Refusal::NoObject`], [`Refusal::InvalidArgs`] for no page or
-    /// one past page 64, [`Refusal::NoRoom`] where all 64 mappings are live.
+    /// Refused: [`Refusal::BadPool`], [`Refusal::NoObject`], [`Refusal::InvalidArgs`] for no page
+    /// or one past page 64, [`Refusal::NoRoom`] where all 64 mappings are live.
     pub fn append_mapping(
         &mut self,
         object: Object,

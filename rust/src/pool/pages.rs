@@ -13,10 +13,10 @@ impl Pool<'_> {
     /// `notices`, that they may write no more.
     ///
     /// Refused, with nothing changed: [`Refusal::BadPool`], [`Refusal::NoObject`],
-    /// [`Refusal::InvalidArgs`] for a part of a page or more than 64 pages, [`Refusal::BadState`] for
-    /// an object that isn't Cached or has pins, [`Refusal::OutOfRange`], [`Refusal::NoNode`] if fewer
-    /// than two nodes are free or the owner numbers are used up, [`Refusal::NoRoom`] if the list
-    /// takes fewer notices than there are live mappings.
+    /// [`Refusal::InvalidArgs`] for a part of a page or more than 64 pages, [`Refusal::BadState`]
+    /// for an object that isn't Cached or has pins, [`Refusal::OutOfRange`], [`Refusal::NoNode`] if
+    /// fewer than two nodes are free or the owner numbers are used up, [`Refusal::NoRoom`] if the
+    /// list takes fewer notices than there are live mappings.
     pub fn create_child(
         &mut self,
         object: Object,

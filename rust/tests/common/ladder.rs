@@ -1,4 +1,5 @@
-//! A call that meets all its refusals at once. Each is repaired in turn, so that they show themselves in document 01's order.
+//! A call that meets all its refusals at once. Each is repaired in turn, so that they show
+//! themselves in document 01's order.
 
 use goramul::ffi::Answer;
 use goramul::{Refusal, Store};
