@@ -42,6 +42,7 @@ mod done;
 pub mod ffi;
 mod names;
 mod notices;
+pub mod picture;
 mod pool;
 mod refusal;
 pub mod report;
