@@ -42,7 +42,7 @@ free-by : (b : Bool) {r : Node} → r ≡ freeNode → pick b r freeNode ≡ fre
 free-by true e = e
 free-by false e = refl
 
-zero-node : (m n : ℕ) → nodeOf (zeros m) n ≡ freeNode
+pub zero-node : (m n : ℕ) → nodeOf (zeros m) n ≡ freeNode
 unfolding nodeOf recordOf wordOf
 zero-node m n = free-by (leb (n * 16 + 16) (length (zeros m))) (simp zero-at)
 

@@ -1,35 +1,98 @@
--- Document 01's worked cases over the definitions, with pages of 4 bytes and pools of 6 frames. Assumes nothing.
+-- Document 01's worked cases over the definitions, with pages of 4 bytes: each line of calls beside its answer. Later calls add their own
+-- lines. Assumes nothing.
 use mathlib.Core.Path.{_≡_, refl}
 use mathlib.Core.Bool.{true}
-use mathlib.Core.List.{List}
-use Prim.Native.Nat.{ℕ}
+use mathlib.Core.List.{[], _∷_}
+use Prim.Native.Nat.{ℕ, _*_}
 use lib.ListN.{replicate}
-use Rattle.logic.specs.Below.{allBelow, sumBelow, firstFrom}
 use Rattle.tables.specs.Pool.{Pool, poolOf}
-use Rattle.tables.specs.Tables.{wordOf, recordOf, nodeOf, entryOf, mappingOf, numberOf, isFree, freeNodeIn}
-use Rattle.sound.specs.Sound.{lengthsOk, tablesOk, sound}
-use Rattle.sound.specs.Tree.{numbersOk, linkedOf, linksOk, namedOk, belowOk, nodeOk, nodesOk, linksTo, stepTo, stepsUp, chainsEnd, startOf, startsSum, startsOk}
-use Rattle.sound.specs.Rows.{entryOk, entryOkAt, rowOk, pinsAt, rowPins, rowTest, rowsOk, markEntry, markRun, markRows, frameOk, framesOk}
-use Rattle.sound.specs.Maps.{mappingOk, placeOk, placesOk, mappingsOk}
-use Rattle.pool.specs.Calls.{callOf, start, freshPool, leafAt, newLeaf, new}
-use Rattle.pool.specs.declared.answer.Answer.the-variants.{Done, Refused}
-use Rattle.pool.specs.declared.answer.Refusal.the-variants.{InvalidArgs}
+use Rattle.sound.specs.Sound.{lengthsOk, sound}
+use Rattle.pool.specs.Calls.{start, freshPool}
+use Rattle.births.proofs.Calls.{start-done}
+use Rattle.cases.specs.Script.{says, reads, Row, _⇒_, Table, repliesBy, repliesIn}
+use Rattle.cases.specs.Script.Line.{New, Child, Write, Read, Free}
+use Rattle.cases.proofs.Quick.{quick, quickly}
 
-pub lent : Pool
-lent = poolOf (replicate 1024 0) (replicate 4096 0) (replicate 6 0) (replicate 256 0) (replicate 4 0) (replicate 24 0)
+-- tables and memory full of sevens, lent for so many frames; a pool started on them, of six frames and of one
+lent : ℕ → Pool
+lent frames = poolOf (replicate 1024 7) (replicate 4096 7) (replicate frames 7) (replicate 256 7) (replicate 4 7) (replicate (frames * 4) 7)
 
-pub fresh : Pool
-fresh = start 4 lent .pool
+pub six : Pool
+unfolding lent start freshPool lengthsOk
+six = start 4 (lent 6) .pool
 
-fresh-sound : sound 4 fresh ≡ true
-unfolding fresh lent start freshPool sound lengthsOk tablesOk nodesOk nodeOk nodeOf recordOf wordOf numbersOk linksOk namedOk belowOk linkedOf allBelow sumBelow chainsEnd stepsUp stepTo linksTo startsOk startsSum startOf rowsOk rowTest rowOk entryOkAt entryOk rowPins pinsAt entryOf framesOk frameOk markRows markRun markEntry mappingsOk placesOk placeOk mappingOk mappingOf numberOf
-fresh-sound = refl
+pub one : Pool
+unfolding lent start freshPool lengthsOk
+one = start 4 (lent 1) .pool
+
+six-sound : sound 4 six ≡ true
+unfolding six
+six-sound = start-done 4 (lent 6) refl
+
+one-sound : sound 4 one ≡ true
+unfolding one
+one-sound = start-done 4 (lent 1) refl
+
+-- P1 new(1), read: zeros, no frame taken
+P1 : Table 4 six (
+    New 1 ⇒ says 0 0
+    ∷ Free ⇒ says 0 6
+    ∷ Read 0 0 4 ⇒ reads (0 ∷ 0 ∷ 0 ∷ 0 ∷ [])
+    ∷ Free ⇒ says 0 6
+    ∷ [])
+unfolding six repliesBy repliesIn quick
+P1 = quickly 4 six six-sound refl
+
+-- P2 the script of cowlines, up to its first zero
+P2 : Table 4 six (
+    New 1 ⇒ says 0 0
+    ∷ Write 0 0 1 4 ⇒ says 0 4
+    ∷ Child 0 0 1 ⇒ says 0 1
+    ∷ Child 0 0 1 ⇒ says 0 3
+    ∷ Write 0 0 2 4 ⇒ says 0 4
+    ∷ Read 3 0 4 ⇒ reads (1 ∷ 1 ∷ 1 ∷ 1 ∷ [])
+    ∷ [])
+unfolding six repliesBy repliesIn quick
+P2 = quickly 4 six six-sound refl
+
+-- P3 R written, child X, X written: R unchanged
+P3 : Table 4 six (
+    New 1 ⇒ says 0 0
+    ∷ Write 0 0 1 4 ⇒ says 0 4
+    ∷ Child 0 0 1 ⇒ says 0 1
+    ∷ Write 1 0 2 4 ⇒ says 0 4
+    ∷ Read 0 0 4 ⇒ reads (1 ∷ 1 ∷ 1 ∷ 1 ∷ [])
+    ∷ Read 1 0 4 ⇒ reads (2 ∷ 2 ∷ 2 ∷ 2 ∷ [])
+    ∷ [])
+unfolding six repliesBy repliesIn quick
+P3 = quickly 4 six six-sound refl
+
+-- P8 first write with one frame in all: OK; a child's write then: NO_MEMORY, done 0
+P8 : Table 4 one (
+    New 1 ⇒ says 0 0
+    ∷ Write 0 0 1 4 ⇒ says 0 4
+    ∷ Child 0 0 1 ⇒ says 0 1
+    ∷ Write 1 0 2 4 ⇒ says 4 0
+    ∷ [])
+unfolding one repliesBy repliesIn quick
+P8 = quickly 4 one one-sound refl
 
 -- 64 pages OK, 65 INVALID_ARGS
-pub pages-64 : new 4 fresh 64 .answer ≡ Done 0
-unfolding new newLeaf leafAt freeNodeIn isFree firstFrom fresh lent start freshPool lengthsOk wordOf
-pages-64 = rw fresh-sound
+limits : Table 4 six (New 64 ⇒ says 0 0 ∷ New 65 ⇒ says 3 0 ∷ [])
+unfolding six repliesBy repliesIn quick
+limits = quickly 4 six six-sound refl
 
-pub pages-65 : new 4 fresh 65 ≡ callOf (Refused InvalidArgs) fresh
-unfolding new
-pages-65 = rw fresh-sound
+-- the 32nd child of one object: NO_NODE
+abbrev kid : ℕ → Row
+kid number = Child 0 0 1 ⇒ says 0 number
+
+children : Table 4 six (
+    New 1 ⇒ says 0 0
+    ∷ kid 1 ∷ kid 3 ∷ kid 5 ∷ kid 7 ∷ kid 9 ∷ kid 11 ∷ kid 13 ∷ kid 15
+    ∷ kid 17 ∷ kid 19 ∷ kid 21 ∷ kid 23 ∷ kid 25 ∷ kid 27 ∷ kid 29 ∷ kid 31
+    ∷ kid 33 ∷ kid 35 ∷ kid 37 ∷ kid 39 ∷ kid 41 ∷ kid 43 ∷ kid 45 ∷ kid 47
+    ∷ kid 49 ∷ kid 51 ∷ kid 53 ∷ kid 55 ∷ kid 57 ∷ kid 59 ∷ kid 61
+    ∷ Child 0 0 1 ⇒ says 9 0
+    ∷ [])
+unfolding six repliesBy repliesIn quick
+children = quickly 4 six six-sound refl

@@ -3,10 +3,12 @@
 use mathlib.Core.Path.{_≡_, refl, sym, ap, _∙_}
 use mathlib.Core.Bool.{true}
 use mathlib.Core.List.{List, [], _∷_, _++_}
-use Prim.Native.Nat.{ℕ}
+use Prim.Native.Nat.{ℕ, _<_}
+use lib.ListN.{replicate}
 use Rattle.tables.specs.Pool.{Pool}
+use Rattle.tables.specs.Tables.{nodeOf}
 use Rattle.sound.specs.Facts.{Leaf, Lengths}
-use Rattle.sound.specs.Sound.{sound}
+use Rattle.sound.specs.Sound.{lengthsOk, sound}
 use Rattle.soundness.proofs.Soundness.{lengths-mean, facts-sound}
 use Rattle.pool.specs.declared.answer.Answer.the-variants.{Done, Refused}
 use Rattle.pool.specs.declared.answer.Refusal.the-variants.{NoMemory, BadPool, Stopped}
@@ -14,6 +16,10 @@ use Rattle.pool.specs.Calls.{start}
 use Rattle.ranges.specs.Ranges.{againstReading}
 use Rattle.isolation.specs.Private.{Private}
 use Rattle.births.proofs.Arrays.{start-arrays}
+use Rattle.peek.specs.Peek.{peek}
+use Rattle.shows.specs.Shows.{BytesOf}
+use Rattle.shows.proofs.Bytes.{zeros-good}
+use Rattle.shows.proofs.Arrays.{peek-array}
 use Rattle.runs.specs.Runs.{Call, Step, stepBy, after, Event, eventOf, history, poolAfter, historyOf}
 use Rattle.runs.specs.Runs.Call.{Read, Write}
 use Rattle.runs.specs.Arrays.{Arrays, zeros, arraysAfter, arraysOf, Given}
@@ -22,6 +28,7 @@ use Rattle.runs.specs.Own.{makes, own, readsOf}
 use Rattle.runs.proofs.Answered.{Answers, answers-refused}
 use Rattle.runs.proofs.Ranges.{read-given}
 use Rattle.runs.proofs.Steps.{arraysBy, step-private, step-answers, step-lacks, step-makes, step-keeps}
+use Rattle.runs.proofs.Cached.{fresh-cached, cached-from}
 use Rattle.runs.proofs.Replay.{replay}
 use Rattle.runs.proofs.Follows.{follows}
 
@@ -47,9 +54,12 @@ arrays-from L A p (b ∷ bs) c n i k = arrays-from L (arraysBy L A p b) (stepBy 
 -- from tables and memory of the right lengths, whatever they hold, made a fresh pool by start
 
 module _ (L : ℕ) (p : Pool) (lent : Lengths L p) (before : List Call) where
+  lengths : lengthsOk L p ≡ true
+  lengths = lengths-mean L p .test lent
+
   -- the pool is sound, and every object reads its array of the history so far: zeros, copies and the bytes that its own writes call done
   pub run-private : Private L (arraysOf L p before) (poolAfter L p before)
-  run-private = private-from L zeros (start L p .pool) (start-arrays L zeros p (lengths-mean L p .test lent)) before
+  run-private = private-from L zeros (start L p .pool) (start-arrays L zeros p lengths) before
 
   -- so that the sound test, which heads every call, holds
   pub run-sound : sound L (poolAfter L p before) ≡ true
@@ -67,6 +77,13 @@ module _ (L : ℕ) (p : Pool) (lent : Lengths L p) (before : List Call) where
   pub reads-array : (n offset : ℕ) (buf : List ℕ) → let r = nextStep (Read n offset buf) .reply in Given L (arraysOf L p before) n offset buf (r .answer) (r .buf)
   unfolding stepBy
   reads-array n offset buf = read-given L (arraysOf L p before) (poolAfter L p before) run-private n offset buf
+
+  -- lent a page of zeros, peek shows a page of a live object's array
+  pub peek-shows : (n page : ℕ) → Leaf (poolAfter L p before .nodes) n → page < nodeOf (poolAfter L p before .nodes) n .size
+      → BytesOf L (arraysOf L p before n page) (peek L (poolAfter L p before) (replicate L 0) n page)
+  peek-shows n page live inside =
+      peek-array L (arraysOf L p before) (poolAfter L p before) run-private (replicate L 0) (zeros-good L) n page live inside
+      (cached-from L zeros (start L p .pool) (start-arrays L zeros p lengths) (fresh-cached L p lengths) before n)
 
   -- a live object's array is changed by its own writes alone
   pub only-writes : (o : ℕ) → Leaf (poolAfter L p before .nodes) o → (c : Call) → ((list : List ℕ) (offset : ℕ) (bytes : List ℕ) → c ≡ Write list o offset bytes → ⊥)

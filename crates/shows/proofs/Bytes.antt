@@ -5,11 +5,11 @@ use mathlib.Core.List.{List}
 use Prim.Native.Nat.{ℕ, _+_, _-_, _*_, _≤_, _<_}
 use native.Mathlib.Omega.{arith}
 use lib.Dec.{eqb}
-use lib.ListN.{length, getD, take, drop, length-drop}
+use lib.ListN.{length, getD, take, drop, replicate, length-drop, length-replicate, getD-replicate}
 use lib.Seq.{length-take-le, getD-take, getD-drop, ext-getD}
-use borrow.Author.Tests.{eqb-true, le-leb}
+use borrow.Author.Tests.{eqb-true, eq-eqb, le-leb}
 use Rattle.logic.specs.Below.{allBelow, copied, zeroed}
-use Rattle.logic.proofs.Laws.{and-left, and-right, all-below, copied-length, zeroed-length}
+use Rattle.logic.proofs.Laws.{and-left, and-right, and-both, all-below, below-all, copied-length, zeroed-length}
 use Rattle.blocks.specs.declared.BlockRange.{BlockRange}
 use Rattle.frames.specs.Frames.{pastedAt, blankAt}
 use Rattle.lookup.specs.declared.Looked.{Looked}
@@ -39,6 +39,12 @@ copied-whole buf m b n l r =
     (rw z at (copied-inside buf 0 m b n i (omega arith) (omega arith))) ∙ sym (part-at m b n i (omega arith)))
 
 -- the zero page is L zeros
+
+pub zeros-good : (L : ℕ) → zeroPageOf L (replicate L 0) ≡ true
+unfolding zeroPageOf blankByte
+zeros-good L =
+    and-both (eq-eqb (length (replicate L 0)) L (length-replicate L 0))
+    (below-all (blankByte (replicate L 0)) L (λ i l. eq-eqb (getD (replicate L 0) i 0) 0 (getD-replicate L i 0 0 l)))
 
 module _ (L : ℕ) (zero : List ℕ) (good : zeroPageOf L zero ≡ true) where
   pub zero-length : length zero ≡ L

@@ -1,0 +1,68 @@
+-- Lines on a sound pool, without its test at each call: calls keep the pool sound, and what is left computes. Assumes nothing.
+use mathlib.Core.Path.{_≡_, refl, ap, _∙_}
+use mathlib.Core.Bool.{true}
+use mathlib.Core.List.{List, [], _∷_}
+use Prim.Native.Nat.{ℕ, _*_}
+use lib.Dec.{leb}
+use lib.ListN.{replicate}
+use Rattle.logic.specs.Pick.{pick}
+use Rattle.logic.specs.Below.{sumBelow, firstFrom, copied, zeroed}
+use Rattle.entry.specs.Entry.{tagOf, stateOf, slotOf, entryWord}
+use Rattle.node.specs.Node.{outOf, sideOf}
+use Rattle.blocks.specs.Blocks.{pagesOf, blockEnd, nextBy, nextOf, countOf}
+use Rattle.tables.specs.Pool.{Pool}
+use Rattle.tables.specs.Tables.{wordOf, withWord, recordOf, nodeOf, withFive, withNode, entryOf, slotAt, withEntry, withState, withoutState, rowMoved, mappingOf, numberOf, isFree, freeNodeIn, freeNodeFrom}
+use Rattle.frames.specs.Frames.{idleOf, oneIdle, freeCount, freeFrameIn, pastedAt, blankAt, clearedAt, copiedAt}
+use Rattle.notices.specs.Notices.{putNotice, overlapOf, tellPlace, tellObject, childOf, rangeChange, toldOf}
+use Rattle.lookup.specs.Lookup.{asksOf, cleared, freshBy, fresh, partBy, part, otherTold, shareOr, hiddenStep, leafTold, settleBy, settle, handedBy, enter, look}
+use Rattle.sound.specs.Sound.{sound}
+use Rattle.pool.specs.declared.answer.Refusal.the-variants.{InvalidArgs}
+use Rattle.pool.specs.Calls as C
+use Rattle.pool.specs.Calls.{refused, leafAt, newLeaf, new, findObject, atNode, onNode}
+use Rattle.commit.specs.Noted.{refusedOf, liveOne, liveCount, roomOf}
+use Rattle.child.specs.Child.{relinked, bornNodes, born, againstChild, withBoth, withChild, numbered, childAt}
+use Rattle.ranges.specs.Each.{onward, each}
+use Rattle.ranges.specs.Pages.{storedBy, wrotePage, writeBy, writePage, fetchedBy, lookRead, readThrough, readBy, readPage}
+use Rattle.ranges.specs.Ranges.{insideOf, cachedOf, rangedBy, againstWriting, writeRange, written, writeThrough, writeAt, refusedRange, againstReading, readRange, filled, readAt, unfilled}
+use Rattle.births.proofs.Calls.{new-sound, child-sound}
+use Rattle.arrays.proofs.Sound.{read-sound, write-sound}
+use Rattle.cases.specs.Script.{Line, Reply, Step, stepOf, says, byCall, bySaid, byRanging, byFilled, blot, step, Row, repliesBy, repliesIn, Table}
+use Rattle.cases.specs.Script.Line.{New, Child, Write, Read, Free}
+
+-- a call as its rule has it after the sound test
+unfoldable pub quick : ℕ → Pool → Line → Step
+unfolding leafAt newLeaf atNode findObject childAt againstChild numbered withChild withBoth born bornNodes relinked roomOf liveCount liveOne writeAt againstWriting writeThrough written writeRange writePage writeBy wrotePage storedBy rangedBy readAt againstReading readRange readPage readBy lookRead readThrough fetchedBy filled insideOf cachedOf each onward pagesOf blockEnd nextBy nextOf countOf look enter handedBy settle settleBy leafTold hiddenStep shareOr otherTold part partBy fresh freshBy cleared asksOf rangeChange childOf tellObject tellPlace overlapOf putNotice freeCount oneIdle idleOf freeFrameIn pastedAt blankAt clearedAt copiedAt nodeOf recordOf wordOf withNode withFive withWord entryOf slotAt withEntry withState withoutState rowMoved mappingOf numberOf isFree freeNodeIn freeNodeFrom tagOf stateOf slotOf entryWord outOf sideOf sumBelow firstFrom copied zeroed
+quick L p (New pages) = byCall (pick (leb pages 64) (newLeaf p pages) (refused InvalidArgs p))
+quick L p (Child object first count) =
+    bySaid (atNode (refusedOf p []) (λ n. childAt L p [] n (first * L) (count * L)) (findObject (p .nodes) object))
+quick L p (Write object offset byte len) =
+    byRanging (atNode (refusedRange p []) (λ n. writeAt L p [] n offset (replicate len byte)) (findObject (p .nodes) object))
+quick L p (Read object offset len) = byFilled (atNode (unfilled p (blot len)) (λ n. readAt L p n offset (blot len)) (findObject (p .nodes) object))
+quick L p Free = stepOf (says 0 (freeCount (p .used))) p
+
+module _ (L : ℕ) where
+  quick-is : (p : Pool) → sound L p ≡ true → (l : Line) → step L p l ≡ quick L p l
+  unfolding step quick new onNode
+  quick-is p s (New pages) = rw s
+  quick-is p s (Child object first count) = rw s
+  quick-is p s (Write object offset byte len) = rw s
+  quick-is p s (Read object offset len) = rw s
+  quick-is p s Free = refl
+
+  step-sound : (p : Pool) → sound L p ≡ true → (l : Line) → sound L (step L p l .pool) ≡ true
+  unfolding step
+  step-sound p s (New pages) = new-sound L p s pages
+  step-sound p s (Child object first count) = child-sound L p s [] object (first * L) (count * L)
+  step-sound p s (Write object offset byte len) = write-sound L p s [] object offset (replicate len byte)
+  step-sound p s (Read object offset len) = read-sound L p s object offset (blot len)
+  step-sound p s Free = s
+
+  quick-replies : (p : Pool) → sound L p ≡ true → (rows : List Row) → repliesBy (step L) p rows ≡ repliesBy (quick L) p rows
+  unfolding repliesBy
+  quick-replies p s [] = refl
+  quick-replies p s (r ∷ rows) =
+      let e = quick-is p s (r .line) in
+      rw (← e) (ap (λ (rs : List Reply). step L p (r .line) .reply ∷ rs) (quick-replies (step L p (r .line) .pool) (step-sound p s (r .line)) rows))
+
+  pub quickly : (p : Pool) → sound L p ≡ true → {rows : List Row} → repliesBy (quick L) p rows ≡ repliesIn rows → Table L p rows
+  quickly p s {rows} e = record { answered = quick-replies p s rows ∙ e }

@@ -1,0 +1,93 @@
+-- Lines of calls as in document 01's cowlines, and what they are answered, on a pool of pages of L bytes. No mapping is live in a case, so that no
+-- list for notices is lent.
+use mathlib.Core.Path.{_≡_}
+use mathlib.Core.List.{List, [], _∷_}
+use Prim.Native.Nat.{ℕ, _*_}
+use lib.ListN.{replicate}
+use Rattle.tables.specs.Pool.{Pool}
+use Rattle.frames.specs.Frames.{freeCount}
+use Rattle.pool.specs.declared.answer.Answer.{Answer}
+use Rattle.pool.specs.declared.answer.Answer.the-variants.{Done, Refused}
+use Rattle.pool.specs.Answers.{codeOf, valueOf}
+use Rattle.pool.specs.Calls as C
+use Rattle.commit.specs.Noted.{Said}
+use Rattle.child.specs.Child.{createChild}
+use Rattle.ranges.specs.Ranges.{Ranging, Filled, read, write}
+
+pub data Line : Type 0 where
+  New : (pages : ℕ) → Line
+  -- pages of an object
+  Child : (object first count : ℕ) → Line
+  -- so many times the same byte
+  Write : (object offset byte len : ℕ) → Line
+  Read : (object offset len : ℕ) → Line
+  -- no call: how many frames are free
+  Free : Line
+
+-- document 01's number and value; the bytes that an accepted read gave
+pub record Reply : Type 0 where
+  pub code : ℕ
+  pub value : ℕ
+  pub bytes : List ℕ
+
+abbrev pub says : ℕ → ℕ → Reply
+says c v = record { code = c; value = v; bytes = [] }
+
+abbrev pub reads : List ℕ → Reply
+reads b = record { code = 0; value = 0; bytes = b }
+
+pub record Step : Type 0 where
+  pub reply : Reply
+  pub pool : Pool
+
+abbrev pub stepOf : Reply → Pool → Step
+stepOf r p = record { reply = r; pool = p }
+
+abbrev pub byCall : C.Call → Step
+byCall c = stepOf (says (codeOf (c .answer)) (valueOf (c .answer))) (c .pool)
+
+abbrev pub bySaid : Said → Step
+bySaid s = stepOf (says (codeOf (s .answer)) (valueOf (s .answer))) (s .pool)
+
+-- a write gives the bytes done, refused or not
+abbrev pub byRanging : Ranging → Step
+byRanging r = stepOf (says (codeOf (r .said .answer)) (r .done)) (r .said .pool)
+
+abbrev pub filling : Answer → List ℕ → Reply
+filling (Done v) buf = reads buf
+filling (Refused r) buf = says (codeOf (Refused r)) 0
+
+abbrev pub byFilled : Filled → Step
+byFilled f = stepOf (filling (f .answer) (f .buf)) (f .pool)
+
+-- what a read's buffer holds before
+abbrev pub blot : ℕ → List ℕ
+blot len = replicate len 255
+
+unfoldable pub step : ℕ → Pool → Line → Step
+step L p (New pages) = byCall (C.new L p pages)
+step L p (Child object first count) = bySaid (createChild L p [] object (first * L) (count * L))
+step L p (Write object offset byte len) = byRanging (write L p [] object offset (replicate len byte))
+step L p (Read object offset len) = byFilled (read L p object offset (blot len))
+step L p Free = stepOf (says 0 (freeCount (p .used))) p
+
+-- a line with its answer beside it
+infix 70 _⇒_
+pub record Row : Type 0 where
+  pub line : Line
+  pub reply : Reply
+
+abbrev pub _⇒_ : Line → Reply → Row
+l ⇒ r = record { line = l; reply = r }
+
+-- the lines, one after the other, are answered so
+unfoldable pub repliesBy : (Pool → Line → Step) → Pool → List Row → List Reply
+repliesBy step p [] = []
+repliesBy step p (r ∷ rows) = let s = step p (r .line) in s .reply ∷ repliesBy step (s .pool) rows
+
+unfoldable pub repliesIn : List Row → List Reply
+repliesIn [] = []
+repliesIn (r ∷ rows) = r .reply ∷ repliesIn rows
+
+pub record Table (L : ℕ) (p : Pool) (rows : List Row) : Type 0 where
+  pub answered : repliesBy (step L) p rows ≡ repliesIn rows
