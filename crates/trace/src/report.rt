@@ -2,7 +2,7 @@
 use node::Node;
 ghost use Prim.Native.Nat.{_≤_};
 
-pub fn mix(h: u32, x: u32) -> u32 {
+fn mix(h: u32, x: u32) -> u32 {
     ((h as u64 * 16777619 + x as u64) % 4294967296) as u32
 }
 
@@ -134,7 +134,7 @@ fn wide(x: u8) -> u32 {
     x as u32
 }
 
-fn bytes(h: u32, frame: &[u8]) -> u32 {
+pub fn bytes(h: u32, frame: &[u8]) -> u32 {
     let mut h = h;
     let mut i = 0;
     while i < frame.len() {
