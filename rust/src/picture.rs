@@ -20,10 +20,11 @@ const WIDTH: usize = 100;
 /// Of two children an object stands before a hidden node, so a row of stops reads from the oldest
 /// down. The last line tells the free frames and the next owner number.
 ///
-/// A hidden node holds what both of its children read. When one of them writes such a page, that
-/// side gets a copy of its own, and the page here is *split for* it: it is the other side's alone.
+/// A hidden node holds what both of its children read, until one of them writes it. A page *split
+/// for object 0 (left)* is one of which the left side has got its own copy; the page here is the
+/// right side's alone.
 ///
-/// Tables that aren't a sound pool are told so, in one line.
+/// Of tables that aren't a sound pool one line says so, and nothing more.
 ///
 /// ```
 /// use goramul::picture::Picture;
