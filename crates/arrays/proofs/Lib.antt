@@ -20,3 +20,5 @@ pub mod Keep
 pub mod Fits
 pub mod Sound
 pub mod Cases
+pub mod Sending
+pub mod Told

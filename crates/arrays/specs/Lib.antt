@@ -1,3 +1,4 @@
 pub mod Arrays
 pub mod Outcomes
 pub mod Calls
+pub mod Told
