@@ -3,7 +3,9 @@ use crate::bytes::at_most;
 use crate::bytes::in_bytes;
 use crate::bytes::in_words;
 use crate::calls;
-use crate::calls::Did;
+use crate::contents;
+use crate::objects;
+use crate::said::Did;
 use crate::say;
 use lines::Line;
 use lines::Read;
@@ -38,13 +40,13 @@ fn next(line: Line, state: State) -> State {
     if line.count != 1 {
         return state;
     }
-    if (line.letter == b's') & calls::holds(line.a) {
+    if (line.letter == b's') & objects::holds(line.a) {
         return State {
             frames: line.a,
             room: 4096,
         };
     }
-    if (line.letter == b'a') & calls::lends(line.a) {
+    if (line.letter == b'a') & objects::lends(line.a) {
         return State {
             frames: state.frames,
             room: line.a,
@@ -102,7 +104,7 @@ pub fn line(
     let f = at_most(after.frames, used.len());
     let e = at_most(in_bytes(after.frames), memory.len());
     let w = at_most(in_words(after.room), notices.len());
-    let n = at_most(calls::lent(line), buf.len());
+    let n = at_most(contents::lent(line), buf.len());
     call(
         line,
         nodes,

@@ -2,129 +2,16 @@
 mod answer;
 mod bytes;
 mod calls;
+mod contents;
+mod going;
+mod objects;
 mod report;
+mod said;
 mod say;
 
-use answer::State;
+use going::Going;
 use libc::STDIN_FILENO;
-use lines::Reader;
 ghost use Prim.Native.Nat.{_≤_};
-
-// A line so far, and the state before it.
-pub struct Going {
-    pub reader: Reader,
-    pub state: State,
-    pub more: bool,
-}
-
-fn standing(reader: Reader, state: State, more: bool) -> Going {
-    Going {
-        reader: reader,
-        state: state,
-        more: more,
-    }
-}
-
-// At the start of a line.
-fn at_start(state: State) -> Going {
-    standing(Reader::new(), state, true)
-}
-
-fn take_byte(
-    byte: u8,
-    at: Going,
-    nodes: &mut [u32],
-    pages: &mut [u32],
-    used: &mut [u8],
-    mappings: &mut [u32],
-    head: &mut [u32],
-    memory: &mut [u8],
-    notices: &mut [u32],
-    buf: &mut [u8],
-) -> Going {
-    let reader = at.reader;
-    let state = at.state;
-    if byte == b'\n' {
-        let next = answer::line(
-            reader,
-            state,
-            nodes,
-            pages,
-            used,
-            mappings,
-            head,
-            memory,
-            notices,
-            buf,
-        );
-        return at_start(next);
-    }
-    standing(reader.step(byte), state, true)
-}
-
-fn take_bytes(
-    bytes: &[u8],
-    at: Going,
-    nodes: &mut [u32],
-    pages: &mut [u32],
-    used: &mut [u8],
-    mappings: &mut [u32],
-    head: &mut [u32],
-    memory: &mut [u8],
-    notices: &mut [u32],
-    buf: &mut [u8],
-) -> Going {
-    let mut at = at;
-    let mut i = 0;
-    while i < bytes.len() {
-        at = take_byte(
-            bytes[i],
-            at,
-            nodes,
-            pages,
-            used,
-            mappings,
-            head,
-            memory,
-            notices,
-            buf,
-        );
-        i += 1;
-    }
-    at
-}
-
-// At the end of the input: the line that has no end, if there is one.
-fn take_rest(
-    at: Going,
-    nodes: &mut [u32],
-    pages: &mut [u32],
-    used: &mut [u8],
-    mappings: &mut [u32],
-    head: &mut [u32],
-    memory: &mut [u8],
-    notices: &mut [u32],
-    buf: &mut [u8],
-) -> Going {
-    let reader = at.reader;
-    let state = at.state;
-    if reader.is_begun() {
-        let next = answer::line(
-            reader,
-            state,
-            nodes,
-            pages,
-            used,
-            mappings,
-            head,
-            memory,
-            notices,
-            buf,
-        );
-        return standing(reader, next, false);
-    }
-    standing(reader, state, false)
-}
 
 // Reads once and answers the lines that end there.
 fn take_some(
@@ -142,9 +29,9 @@ fn take_some(
     let got = libc::read(STDIN_FILENO, &mut input);
     let n = io::count(got, &input);
     if n == 0 {
-        return take_rest(at, nodes, pages, used, mappings, head, memory, notices, buf);
+        return going::take_rest(at, nodes, pages, used, mappings, head, memory, notices, buf);
     }
-    take_bytes(
+    going::take_bytes(
         &input[..n],
         at,
         nodes,
@@ -204,7 +91,7 @@ fn main() {
         &mut head,
         &memory,
     );
-    let at = at_start(state);
+    let at = going::at_start(state);
     take_all(
         at,
         &mut nodes,

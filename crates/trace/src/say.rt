@@ -1,6 +1,6 @@
 // Writes an answer line.
-use crate::calls::Said;
 use crate::report;
+use crate::said::Said;
 use libc::STDOUT_FILENO;
 
 fn number(n: u64) {

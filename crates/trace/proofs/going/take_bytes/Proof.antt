@@ -3,8 +3,8 @@ use Prim.Native.Nat.{_≤_, _-_}
 use lib.ListN.{length}
 use native.Mathlib.Omega.{arith}
 use borrow.Author.Needs.{needs}
-use Rattle.trace.proofs.take_bytes.Statement.{statement}
-use Rattle.trace.proofs.take_bytes.Tie as tie
+use Rattle.trace.proofs.going.take_bytes.Statement.{statement}
+use Rattle.trace.proofs.going.take_bytes.Tie as tie
 
 abbrev Inv-loop : tie.InvT-loop
 Inv-loop bytes nodes₀ pages₀ used₀ mappings₀ head₀ memory₀ notices₀ buf₀ at₀ i₀ nodes pages used mappings head memory notices buf at i = (i ≤ length bytes) × (length nodes ≡ length nodes₀) × (length pages ≡ length pages₀) × (length used ≡ length used₀) × (length mappings ≡ length mappings₀) × (length head ≡ length head₀) × (length memory ≡ length memory₀) × (length notices ≡ length notices₀) × (length buf ≡ length buf₀)
