@@ -1,4 +1,4 @@
--- commit_page, 522, on a pool of pages of L bytes, refused calls too.
+-- commit_page, 520, on a pool of pages of L bytes, refused calls too.
 use Prim.Native.Nat.{ℕ, _%_}
 use mathlib.Core.Bool.{Bool}
 use mathlib.Core.List.{List}

@@ -1,4 +1,4 @@
-// The call commit_page (paged.rs 522): one page looked up for reading or for writing.
+// The call commit_page (paged.rs 520): one page looked up for reading or for writing.
 use logic::Found;
 use lookup::Looked;
 use pool::Against;

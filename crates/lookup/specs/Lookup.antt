@@ -1,4 +1,4 @@
--- Page lookup (commit_page_internal, 533): each step as the source has it, for pages of L bytes.
+-- Page lookup (commit_page_internal, 531): each step as the source has it, for pages of L bytes.
 use Prim.Native.Nat.{ℕ, zero, suc, _+_, _-_}
 use mathlib.Core.Bool.{Bool, true, false, _&&_, not}
 use mathlib.Core.List.{List}
@@ -31,15 +31,15 @@ withPages w p = workOf p (w .used) (w .memory) (w .told)
 abbrev pub withTold : Work → Told → Work
 withTold w t = workOf (w .pages) (w .used) (w .memory) t
 
--- the frame kept by the node, 570 and 582
+-- the frame kept by the node, 563, 570 and 592
 abbrev pub kept : Work → ℕ → ℕ → ℕ → Work
 kept w n i f = withPages w (withState (w .pages) n i (newState f))
 
--- the frame taken out of the node, 613 and 634
+-- the frame taken out of the node, 609 and 629
 abbrev pub without : Work → ℕ → ℕ → Work
 without w n i = withPages w (withoutState (w .pages) n i)
 
--- an absent page outside, or with no parent, 549: zeros for reading; for writing a cleared frame, which a hidden node doesn't keep, and which
+-- an absent page outside, or with no parent, 548: zeros for reading; for writing a cleared frame, which a hidden node doesn't keep, and which
 -- goes back where the page lies outside a hidden node
 unfoldable pub cleared : ℕ → Work → ℕ → Work
 cleared L w f = workOf (w .pages) (takenOf (At f) (w .used)) (clearedAt L (w .memory) f) (w .told)
@@ -54,7 +54,7 @@ freshBy L (At f) w n i false false = lookingOf (Shared f) (kept (cleared L w f) 
 unfoldable pub fresh : ℕ → Work → ℕ → ℕ → Bool → Bool → Bool → Looking
 fresh L w n i hidden out write = pick write (freshBy L (freeFrameIn (w .used)) w n i hidden out) (lookingOf Zero w)
 
--- copy-on-write, 637: the copy goes to the asker, and the page is tagged with its side
+-- copy-on-write, 631: the copy goes to the asker, and the page is tagged with its side
 unfoldable pub partBy : ℕ → Found → Work → ℕ → ℕ → PageState → PageStateTag → Looking
 partBy L Nothing w n i s t = lookingOf NoMemory w
 partBy L (At f) w n i s t =
@@ -68,7 +68,7 @@ part L w n i s t = partBy L (freeFrameIn (w .used)) w n i s t
 abbrev pub other : Node → ℕ → ℕ
 other n asker = childOf (sideOf n asker .other)
 
--- a hidden node that has the page, 602 to 646: if the other child can't reach it, it goes to the asker; else an Unmap that is due goes to the
+-- a hidden node that has the page, 600 to 639: if the other child can't reach it, it goes to the asker; else an Unmap that is due goes to the
 -- other child; a split page goes to the asker; for writing the asker gets a copy; else the frame is shared
 unfoldable pub otherTold : List ℕ → List ℕ → ℕ → ℕ → Bool → Told → Told
 otherTold N M o i unmap t = pick unmap (rangeChange 64 N M o i (i + 1) 1 t) t
@@ -84,7 +84,7 @@ hiddenStep L N M s n w node i write asker unmap =
     (shareOr L s (sideOf n asker .tag) (withTold w (otherTold N M (other n asker) i unmap (w .told))) node i write unmap)
     (lookingOf (Own (s .frame) unmap) (without w node i))
 
--- a leaf that has the page, 623: its mappings are told of a frame that was handed down
+-- a leaf that has the page, 619: its mappings are told of a frame that was handed down
 unfoldable pub leafTold : List ℕ → ℕ → ℕ → Bool → Told → Told
 leafTold M node i unmap t = pick unmap (tellObject M t 64 node i 1 1) t
 
@@ -99,7 +99,7 @@ settleBy L N M (Held s) w node i write asker unmap =
 unfoldable pub settle : ℕ → List ℕ → List ℕ → Work → ℕ → ℕ → Bool → ℕ → Bool → Looking
 settle L N M w node i write asker unmap = settleBy L N M (slotAt (w .pages) node i) w node i write asker unmap
 
--- what the parent answered, taken apart, 580 to 598
+-- what the parent answered, taken apart, 568 to 595
 unfoldable pub handedBy : ℕ → List ℕ → List ℕ → Looked → Work → ℕ → ℕ → Bool → ℕ → Looking
 handedBy L N M (Shared f) w node i write asker = lookingOf (Shared f) w
 handedBy L N M Zero w node i write asker = lookingOf Zero w

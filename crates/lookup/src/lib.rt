@@ -1,4 +1,4 @@
-// Page lookup (commit_page_internal, paged.rs 533 to 653).
+// Page lookup (commit_page_internal, paged.rs 531 to 640).
 use entry::PageState;
 use entry::PageStateTag;
 use entry::Slot;

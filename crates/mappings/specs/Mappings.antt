@@ -1,4 +1,4 @@
--- The list of mappings (append_mapping, 335; remove_mapping, 339): live ones stand first, in the order of appending.
+-- The list of mappings (append_mapping, 332; remove_mapping, 336): live ones stand first, in the order of appending.
 use Prim.Native.Nat.{ℕ, _+_, _-_, _*_}
 use mathlib.Core.Bool.{Bool, _&&_, not}
 use mathlib.Core.List.{List}

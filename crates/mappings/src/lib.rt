@@ -1,4 +1,4 @@
-// An object's mappings (paged.rs 335 to 347): live ones stand first, in the order of appending; the lowest free number is given.
+// An object's mappings (paged.rs 332 to 344): live ones stand first, in the order of appending; the lowest free number is given.
 use logic::Found;
 use tables::Mapping;
 ghost use mathlib.Core.Path.{_≡_};

@@ -1,4 +1,4 @@
--- What a node's record says of itself (paged.rs 18 to 99 and 534 to 544).
+-- What a node's record says of itself (paged.rs 18 to 99 and 538 to 544).
 use Prim.Native.Nat.{ℕ, _+_, min}
 use mathlib.Core.Bool.{Bool, _&&_, _||_, not}
 use lib.Dec.{eqb, leb, ltb}
@@ -39,7 +39,7 @@ hiddenOf n = eqb (n .kind) 3
 abbrev pub leafOf : Node → Bool
 leafOf n = eqb (n .kind) 1 || eqb (n .kind) 2
 
--- the parent's page lies in the window, 608
+-- the parent's page lies in the window, 603
 abbrev pub windowOf : Node → ℕ → Bool
 windowOf n page = leb (n .«parent_offset») page && ltb page (n .«parent_limit»)
 

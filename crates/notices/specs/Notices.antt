@@ -64,7 +64,7 @@ highIn n hi = min (n .«parent_limit») hi
 unfoldable pub childOf : ℕ → ℕ
 childOf link = pick (eqb link 0) 4294967295 (link - 1)
 
--- range_change, 659: of the parent's pages from lo to hi those in the node's window, for its mappings and then for both children of a
+-- range_change, 646: of the parent's pages from lo to hi those in the node's window, for its mappings and then for both children of a
 -- hidden node, left first
 unfoldable pub rangeChange : ℕ → List ℕ → List ℕ → ℕ → ℕ → ℕ → ℕ → Told → Told
 rangeChange zero N M node lo hi op t = t

@@ -1,4 +1,4 @@
-// Notices to mappings: range_change of an object (paged.rs 659 to 679) and of a mapping (vmar.rs 1010 to 1036), in pages.
+// Notices to mappings: range_change of an object (paged.rs 646 to 666) and of a mapping (vmar.rs 1010 to 1036), in pages.
 use node::Node;
 use tables::Mapping;
 ghost use mathlib.Core.Path.{_≡_};

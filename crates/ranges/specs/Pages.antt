@@ -27,7 +27,7 @@ againstWrite Stopped = Why R.the-variants.Stopped
 againstWrite (Own f u) = Why R.the-variants.Stopped
 againstWrite (New f) = Why R.the-variants.Stopped
 
--- write, 239: the block's bytes of b go into the page's frame, at its place in it
+-- write, 240: the block's bytes of b go into the page's frame, at its place in it
 unfoldable pub storedBy : ℕ → List ℕ → ℕ → BlockRange → Looked → Work → Work
 storedBy L bytes from b (Shared f) w =
     workOf (w .pages) (w .used) (pastedAt (w .memory) (f * L + b .begin) bytes from (b .end - b .begin)) (w .told)
@@ -79,7 +79,7 @@ againstRead Stopped = Why R.the-variants.Stopped
 againstRead (Own f u) = Why R.the-variants.Stopped
 againstRead (New f) = Why R.the-variants.Stopped
 
--- read, 229: the block of the page's frame, or zeros, goes to its place in the buffer
+-- read, 230: the block of the page's frame, or zeros, goes to its place in the buffer
 unfoldable pub fetchedBy : ℕ → ℕ → BlockRange → Looked → List ℕ → List ℕ → List ℕ
 fetchedBy L to b (Shared f) m buf = pastedAt buf to m (f * L + b .begin) (b .end - b .begin)
 fetchedBy L to b Zero m buf = blankAt buf to (b .end - b .begin)

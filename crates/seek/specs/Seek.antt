@@ -16,12 +16,12 @@ use Rattle.seek.specs.declared.Sought.the-variants.{Shared, Zero, Absent
 use Rattle.seek.specs.declared.Here.{Here}
 use Rattle.seek.specs.declared.Here.the-variants.{Seen, Above}
 
--- a hidden node's page would be handed over or copied, 602 to 646
+-- a hidden node's page would be handed over or copied, 600 to 639
 unfoldable pub movesOf : List ℕ → PageState → Node → ℕ → Bool → ℕ → Bool
 movesOf N s n i write asker =
     hiddenOf n && (not (windowOf (nodeOf N (other n asker)) i) || splitOf (s .tag) || (write && splitOf (sideOf n asker .tag)))
 
--- an absent page that no parent is asked for, 549; a write takes a fresh frame, where a hidden node has the page in range
+-- an absent page that no parent is asked for, 548; a write takes a fresh frame, where a hidden node has the page in range
 unfoldable pub absentOf : Node → ℕ → Bool → Sought
 absentOf n i write = pick write (pick (hiddenOf n && not (outOf n i)) Absent Stops) Zero
 
