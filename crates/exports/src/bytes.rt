@@ -16,13 +16,13 @@ pub extern "C" fn goramul_read(
     head: &[u32],
     memory: &mut [u8],
     object: u64,
-    offset: u64,
+    from: u64,
     buf: &mut [u8],
     value: &mut u64,
 ) -> u32
     ensures { λ r. ⌜
         filledBy r (now (value .exit)) (poolOf (now (nodes .entry)) (now (pages .exit)) (now (used .exit)) (now (mappings .entry)) (now (head .entry)) (now (memory .exit))) (now (buf .exit))
-        ≡ givenFilled (read 4096 (poolOf (now (nodes .entry)) (now (pages .entry)) (now (used .entry)) (now (mappings .entry)) (now (head .entry)) (now (memory .entry))) object offset (now (buf .entry))) ⌝ }
+        ≡ givenFilled (read 4096 (poolOf (now (nodes .entry)) (now (pages .entry)) (now (used .entry)) (now (mappings .entry)) (now (head .entry)) (now (memory .entry))) object from (now (buf .entry))) ⌝ }
 {
     let filled = ranges::read(
         nodes,
@@ -32,7 +32,7 @@ pub extern "C" fn goramul_read(
         head,
         memory,
         object,
-        offset,
+        from,
         buf,
     );
     *value = filled.value();
