@@ -6,7 +6,7 @@ use Prim.Native.Nat.{ℕ}
 use lib.ListN.{length}
 use Rattle.tables.specs.Pool.{Pool}
 use Rattle.sound.specs.Sound.{sound}
-use Rattle.ranges.specs.Pages.{readOf}
+use Rattle.page.specs.Pages.{readOf}
 use Rattle.ranges.specs.Ranges.{Ranging, refusedRange, Filled, unfilled, filled, againstReading, againstWriting, againstCommitting, readRange, readAt, read, writeThrough, writeAt, write, commitThrough, commitAt, commit}
 use Rattle.isolation.specs.Private.{Private}
 use Rattle.soundness.proofs.Soundness.{facts-sound}

@@ -14,8 +14,8 @@ use Rattle.notices.specs.Notices.{childOf}
 use Rattle.lookup.specs.Lookup.{asksOf, cleared, freshBy, fresh, leafTold, settleBy, settle, handedBy, enter, look}
 use Rattle.pool.specs.declared.answer.Answer.the-variants.{Refused}
 use Rattle.pool.specs.declared.answer.Refusal.the-variants.{NoMemory}
-use Rattle.ranges.specs.Each.{onward, each}
-use Rattle.ranges.specs.Pages.{storedBy, wrotePage, writeBy, writePage, readOf, fetchedBy, lookRead, readThrough, readBy, readPage}
+use Rattle.page.specs.Each.{onward, each}
+use Rattle.page.specs.Pages.{storedBy, wrotePage, writeBy, writePage, readOf, fetchedBy, lookRead, readThrough, readBy, readPage}
 use Rattle.ranges.specs.Ranges.{Ranging, rangedBy, writeRange, written, writeThrough, filled, readRange}
 use Rattle.isolation.specs.Need.{needAbove, need}
 use Rattle.arrays.specs.Arrays.{writeArray, touched, needs}

@@ -2,7 +2,7 @@
 use Prim.Native.Nat.{ℕ, zero, suc}
 use Rattle.pool.specs.declared.answer.Against.{Against}
 use Rattle.pool.specs.declared.answer.Against.the-variants.{Why, Nothing as Fine}
-use Rattle.ranges.specs.Each.{Part, partOf, onward, each}
+use Rattle.page.specs.Each.{Part, partOf, onward, each}
 
 -- before holds with so many pages to come; after holds at the end, or where a page was refused
 module _ {C S : Type 0} (step : C → S → Part C S) (before : ℕ → C → S → Type 0) (after : Part C S → Type 0) where

@@ -27,7 +27,7 @@ use Rattle.pool.specs.declared.answer.Against.{Against}
 use Rattle.pool.specs.declared.answer.Against.the-variants.{Why, Nothing as Fine}
 use Rattle.pool.specs.Answers.{unless}
 use Rattle.pool.specs.Calls.{findObject, atNode, onNode}
-use Rattle.ranges.specs.Pages.{againstRead, Read, readOf, lookRead, readThrough, readBy, readPage}
+use Rattle.page.specs.Pages.{againstRead, Read, readOf, lookRead, readThrough, readBy, readPage}
 use Rattle.ranges.specs.Ranges.{Filled, filled, unfilled, againstReading, readRange, readAt, read}
 use Rattle.soundness.proofs.Soundness.{sound-facts}
 use Rattle.bounds.specs.Reading.{Answers}

@@ -24,8 +24,8 @@ use Rattle.lookup.specs.Lookup.{look}
 use Rattle.sound.specs.Facts.{Leaf, Sound}
 use Rattle.pool.specs.declared.answer.Against.{Against}
 use Rattle.pool.specs.declared.answer.Against.the-variants.{Why, Nothing as Fine}
-use Rattle.ranges.specs.Each.{partOf}
-use Rattle.ranges.specs.Pages.{againstWrite, againstRead, restBy, storedBy, wrotePage, writeBy, writePage, committedPage, commitPage, Read, lookRead, readThrough, readBy, readPage}
+use Rattle.page.specs.Each.{partOf}
+use Rattle.page.specs.Pages.{againstWrite, againstRead, restBy, storedBy, wrotePage, writeBy, writePage, committedPage, commitPage, Read, lookRead, readThrough, readBy, readPage}
 use Rattle.ranges.specs.Ranges.{readRange, writeRange, commitRange}
 use Rattle.isolation.specs.Kept.{poolWith}
 use Rattle.isolation.proofs.State.{Ok}

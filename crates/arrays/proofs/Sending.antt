@@ -22,8 +22,8 @@ use Rattle.sound.specs.Facts.{Leaf, Sound}
 use Rattle.pool.specs.declared.answer.Against.{Against}
 use Rattle.pool.specs.declared.answer.Against.the-variants.{Why, Nothing as Fine}
 use Rattle.commit.specs.Noted.{liveCount}
-use Rattle.ranges.specs.Each.{Part, partOf, onward, each}
-use Rattle.ranges.specs.Pages.{againstWrite, restBy, storedBy, wrotePage, writeBy, writePage, committedPage, commitPage}
+use Rattle.page.specs.Each.{Part, partOf, onward, each}
+use Rattle.page.specs.Pages.{againstWrite, restBy, storedBy, wrotePage, writeBy, writePage, committedPage, commitPage}
 use Rattle.bounds.specs.Telling.{putAll}
 use Rattle.bounds.proofs.Adding.{put-both}
 use Rattle.bounds.proofs.Room.{room-enough}

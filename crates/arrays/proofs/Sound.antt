@@ -15,7 +15,7 @@ use Rattle.sound.specs.Facts.{Sound}
 use Rattle.pool.specs.declared.answer.Refusal.{Refusal}
 use Rattle.commit.specs.Noted.{Said, refusedOf}
 use Rattle.commit.specs.Commit as One
-use Rattle.ranges.specs.Pages.{readOf}
+use Rattle.page.specs.Pages.{readOf}
 use Rattle.ranges.specs.Ranges.{workIn, rangedBy, Ranging, refusedRange, Filled, unfilled, filled, againstReading, againstWriting, againstCommitting, readRange, readAt, read, written, writeThrough, writeAt, write, committed, commitThrough, commitAt, commit}
 use Rattle.isolation.specs.Kept.{poolWith}
 use Rattle.soundness.proofs.Soundness.{sound-facts, facts-sound}

@@ -11,7 +11,7 @@ use Rattle.tables.specs.Pool.{Pool}
 use Rattle.lookup.specs.declared.Looked.the-variants.{Shared}
 use Rattle.lookup.specs.Work.{Work}
 use Rattle.sound.specs.Facts.{Leaf, Holds}
-use Rattle.ranges.specs.Pages.{storedBy}
+use Rattle.page.specs.Pages.{storedBy}
 use Rattle.isolation.specs.Private.{Private, put}
 use Rattle.isolation.specs.Kept.{poolWith}
 use Rattle.isolation.proofs.Put.{put-keeps}

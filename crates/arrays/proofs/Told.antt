@@ -30,8 +30,8 @@ use Rattle.pool.specs.Answers.{unless}
 use Rattle.pool.specs.Calls.{findObject, atNode, onNode}
 use Rattle.commit.specs.Noted.{Said, refusedOf, liveCount, roomOf}
 use Rattle.child.specs.Child.{born, againstChild, withBoth, withChild, numbered, childAt, createChild}
-use Rattle.ranges.specs.Each.{Part}
-use Rattle.ranges.specs.Pages.{writePage, commitPage}
+use Rattle.page.specs.Each.{Part}
+use Rattle.page.specs.Pages.{writePage, commitPage}
 use Rattle.ranges.specs.Ranges.{Ranging, insideOf, cachedOf, refusedRange, rangedBy, workIn, againstWriting, writeRange, written, writeThrough, writeAt, write, againstCommitting, commitRange, committed, commitThrough, commitAt, commit}
 use Rattle.bounds.specs.Telling.{putAll, Wrote, Added}
 use Rattle.bounds.specs.Calling.{NoRoomFor}

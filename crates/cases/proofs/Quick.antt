@@ -21,8 +21,8 @@ use Rattle.pool.specs.Calls as C
 use Rattle.pool.specs.Calls.{refused, leafAt, newLeaf, new, findObject, atNode, onNode}
 use Rattle.commit.specs.Noted.{refusedOf, liveOne, liveCount, roomOf}
 use Rattle.child.specs.Child.{relinked, bornNodes, born, againstChild, withBoth, withChild, numbered, childAt}
-use Rattle.ranges.specs.Each.{onward, each}
-use Rattle.ranges.specs.Pages.{storedBy, wrotePage, writeBy, writePage, fetchedBy, lookRead, readThrough, readBy, readPage}
+use Rattle.page.specs.Each.{onward, each}
+use Rattle.page.specs.Pages.{storedBy, wrotePage, writeBy, writePage, fetchedBy, lookRead, readThrough, readBy, readPage}
 use Rattle.ranges.specs.Ranges.{insideOf, cachedOf, rangedBy, againstWriting, writeRange, written, writeThrough, writeAt, refusedRange, againstReading, readRange, filled, readAt, unfilled}
 use Rattle.births.proofs.Calls.{new-sound, child-sound}
 use Rattle.arrays.proofs.Sound.{read-sound, write-sound}

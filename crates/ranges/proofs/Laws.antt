@@ -24,8 +24,8 @@ use Rattle.pool.specs.declared.answer.Against.{Against}
 use Rattle.pool.specs.declared.answer.Against.the-variants.{Why, Nothing as Fine}
 use Rattle.commit.specs.Noted.{roomOf}
 use Rattle.ranges.specs.declared.Ranged.{Ranged}
-use Rattle.ranges.specs.Each.{Part, partOf, onward, each}
-use Rattle.ranges.specs.Pages.{Read, readOf, readPage, writePage, commitPage}
+use Rattle.page.specs.Each.{Part, partOf, onward, each}
+use Rattle.page.specs.Pages.{Read, readOf, readPage, writePage, commitPage}
 use Rattle.ranges.specs.Ranges.{insideOf, cachedOf, rangingOf, refusedBy, answerBy, rangedBy, againstWriting, writeRange, written, writeThrough, writeAt, againstCommitting, commitRange, committed, commitThrough, commitAt, filledOf, againstReading, readRange, filled, readAt}
 
 -- the loop over pages

@@ -22,8 +22,8 @@ use Rattle.pool.specs.Answers.{unless}
 use Rattle.pool.specs.Calls.{onNode}
 use Rattle.commit.specs.Noted.{Said, notedOf, refusedOf, roomOf}
 use Rattle.ranges.specs.declared.Ranged.{Ranged}
-use Rattle.ranges.specs.Each.{Part, each}
-use Rattle.ranges.specs.Pages.{Read, readOf, readPage, writePage, commitPage}
+use Rattle.page.specs.Each.{Part, each}
+use Rattle.page.specs.Pages.{Read, readOf, readPage, writePage, commitPage}
 
 -- the range lies inside the object
 unfoldable pub insideOf : ℕ → List ℕ → ℕ → ℕ → ℕ → Bool

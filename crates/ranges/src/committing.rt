@@ -1,8 +1,7 @@
 // Committing a range of pages (paged.rs 301).
 use crate::Ranged;
-use crate::pages;
-use crate::pages::CommitPart;
 use logic::Found;
+use page::CommitPart;
 use pool::Against;
 use pool::Refusal;
 ghost use mathlib.Core.Path.{_≡_};
@@ -12,7 +11,7 @@ ghost use Rattle.tables.specs.Pool.{poolOf};
 ghost use Rattle.notices.specs.Notices.{toldOf};
 ghost use Rattle.lookup.specs.Work.{workOf};
 ghost use Rattle.pool.specs.declared.answer.Against.the-variants.{Nothing as Fine};
-ghost use Rattle.ranges.specs.Each.{partOf};
+ghost use Rattle.page.specs.Each.{partOf};
 ghost use Rattle.ranges.specs.Ranges.{rangingOf, againstCommitting, commitRange, commitThrough, commitAt, commit};
 
 fn against_committing(
@@ -57,7 +56,7 @@ fn commit_range(
     let mut count = 0;
     while left > 0 {
         left -= 1;
-        let part = pages::commit_page(
+        let part = page::commit_page(
             nodes,
             mappings,
             pages,

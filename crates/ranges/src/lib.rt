@@ -1,6 +1,5 @@
 // The calls read, write and commit: a range of an object, page by page.
 mod committing;
-mod pages;
 mod reading;
 mod writing;
 

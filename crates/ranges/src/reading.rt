@@ -1,8 +1,7 @@
 // Reading a range of bytes (paged.rs 225).
-use crate::pages;
-use crate::pages::ReadPart;
 use blocks::BlockIter;
 use logic::Found;
+use page::ReadPart;
 use pool::Against;
 use pool::Answer;
 use pool::Refusal;
@@ -12,8 +11,8 @@ ghost use Prim.Native.Nat.{ℕ, _+_, _≤_, _<_};
 ghost use lib.ListN.{length};
 ghost use Rattle.tables.specs.Pool.{poolOf};
 ghost use Rattle.pool.specs.declared.answer.Against.the-variants.{Nothing as Fine};
-ghost use Rattle.ranges.specs.Each.{partOf};
-ghost use Rattle.ranges.specs.Pages.{readOf};
+ghost use Rattle.page.specs.Each.{partOf};
+ghost use Rattle.page.specs.Pages.{readOf};
 ghost use Rattle.ranges.specs.Ranges.{filledOf, againstReading, readRange, readAt, read};
 
 fn against_reading(nodes: &[u32], node: u32, offset: u64, len: u64) -> Against
@@ -52,7 +51,7 @@ fn read_range(
     let mut left = it.count();
     while left > 0 {
         left -= 1;
-        let part = pages::read_page(nodes, mappings, pages, used, memory, node, offset, buf, it);
+        let part = page::read_page(nodes, mappings, pages, used, memory, node, offset, buf, it);
         it = part.rest;
         let why = part.why;
         match why {

@@ -1,9 +1,8 @@
 // Writing a range of bytes (paged.rs 235).
 use crate::Ranged;
-use crate::pages;
-use crate::pages::WritePart;
 use blocks::BlockIter;
 use logic::Found;
+use page::WritePart;
 use pool::Against;
 use pool::Refusal;
 ghost use mathlib.Core.Path.{_≡_};
@@ -14,7 +13,7 @@ ghost use Rattle.tables.specs.Pool.{poolOf};
 ghost use Rattle.notices.specs.Notices.{toldOf};
 ghost use Rattle.lookup.specs.Work.{workOf};
 ghost use Rattle.pool.specs.declared.answer.Against.the-variants.{Nothing as Fine};
-ghost use Rattle.ranges.specs.Each.{partOf};
+ghost use Rattle.page.specs.Each.{partOf};
 ghost use Rattle.ranges.specs.Ranges.{rangingOf, againstWriting, writeRange, writeThrough, writeAt, write};
 
 fn against_writing(
@@ -72,7 +71,7 @@ fn write_range(
     let mut count = 0;
     while left > 0 {
         left -= 1;
-        let part = pages::write_page(
+        let part = page::write_page(
             nodes,
             mappings,
             pages,

@@ -11,7 +11,7 @@ use Rattle.pool.specs.declared.answer.Refusal.{Refusal}
 use Rattle.pool.specs.declared.answer.Refusal.the-variants.{NoMemory}
 use Rattle.pool.specs.declared.answer.Against.{Against}
 use Rattle.pool.specs.declared.answer.Against.the-variants.{Why, Nothing as Fine}
-use Rattle.ranges.specs.Pages.{readOf}
+use Rattle.page.specs.Pages.{readOf}
 use Rattle.ranges.specs.Ranges.{Ranging, refusedRange, Filled, unfilled, filled, againstReading, againstWriting, againstCommitting, readRange, readAt, read, writeThrough, writeAt, write, commitThrough, commitAt, commit}
 use Rattle.isolation.specs.Private.{Private}
 use Rattle.arrays.specs.Outcomes.{Reads, Granted, Commits, Writes}

@@ -23,7 +23,7 @@ use Rattle.pool.specs.declared.answer.Against.{Against}
 use Rattle.pool.specs.declared.answer.Against.the-variants.{Why, Nothing as Fine}
 use Rattle.pool.specs.Answers.{unless}
 use Rattle.pool.specs.Calls.{findObject, atNode, onNode}
-use Rattle.ranges.specs.Pages.{readOf}
+use Rattle.page.specs.Pages.{readOf}
 use Rattle.ranges.specs.Ranges.{Filled, filled, unfilled, againstReading, readRange, readAt, read}
 use Rattle.peek.specs.declared.Place.{Place}
 use Rattle.peek.specs.declared.Place.the-variants.{Nowhere}

@@ -22,8 +22,8 @@ use Rattle.seek.specs.declared.Sought.{Sought}
 use Rattle.seek.specs.declared.Sought.the-variants.{Shared, Zero, Absent, Moves, Stops}
 use Rattle.seek.specs.Seek.{seekPage}
 use Rattle.pool.specs.declared.answer.Against.the-variants.{Nothing as Fine}
-use Rattle.ranges.specs.Each.{Part, partOf, onward, each}
-use Rattle.ranges.specs.Pages.{againstRead, Read, readOf, lookRead, readThrough, readBy, readPage}
+use Rattle.page.specs.Each.{Part, partOf, onward, each}
+use Rattle.page.specs.Pages.{againstRead, Read, readOf, lookRead, readThrough, readBy, readPage}
 use Rattle.ranges.specs.Ranges.{filled, readRange}
 use Rattle.arrays.proofs.Blocks.{cut, count-none}
 use Rattle.peek.specs.Peek.{zeroPageOf, placeBy, shownAt}

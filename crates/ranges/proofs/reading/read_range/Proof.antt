@@ -2,8 +2,8 @@ use mathlib.Core.Path.{_≡_, refl, _∙_}
 use Prim.Native.Nat.{_≤_, _+_}
 use native.Mathlib.Omega.{arith}
 use lib.ListN.{length}
-use Rattle.ranges.specs.Each.{each}
-use Rattle.ranges.specs.Pages.{readOf, readPage}
+use Rattle.page.specs.Each.{each}
+use Rattle.page.specs.Pages.{readOf, readPage}
 use Rattle.ranges.specs.Ranges.{readRange}
 use Rattle.ranges.proofs.Laws.{each-end, each-stop, each-next}
 use borrow.Author.Needs.{needs}

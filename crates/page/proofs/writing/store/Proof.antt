@@ -1,9 +1,9 @@
 use mathlib.Core.Path.{refl}
-use Rattle.ranges.specs.Pages.{storedBy}
-use Rattle.ranges.proofs.PageLaws.{stored-all}
+use Rattle.page.specs.Pages.{storedBy}
+use Rattle.page.proofs.Laws.{stored-all}
 use borrow.Author.Needs.{needs}
-use Rattle.ranges.proofs.pages.store.Statement.{statement}
-use Rattle.ranges.proofs.pages.store.Tie as tie
+use Rattle.page.proofs.writing.store.Statement.{statement}
+use Rattle.page.proofs.writing.store.Tie as tie
 
 returns : tie.Need-returns
 returns c = λ P U t. stored-all _ _ _ _ P U t (c .before .before .before .before .before .before .looked .given .1) (c .before .before .before .len .ensures) (c .before .before .paste .ensures)

@@ -1,8 +1,8 @@
 use native.Mathlib.Omega.{arith}
-use Rattle.ranges.proofs.PageLaws.{commit-stops, commit-on}
+use Rattle.page.proofs.Laws.{commit-stops, commit-on}
 use borrow.Author.Needs.{needs}
-use Rattle.ranges.proofs.pages.commit_page.Statement.{statement}
-use Rattle.ranges.proofs.pages.commit_page.Tie as tie
+use Rattle.page.proofs.writing.commit_page.Statement.{statement}
+use Rattle.page.proofs.writing.commit_page.Tie as tie
 
 returns : tie.Need-returns
 returns c = (commit-stops _ _ _ _ _ (c .before .before .before .before .before .before .before .before .before .before .before .before .find-page .ensures) (c .before .before .before .against-write .ensures) (c .before .why .given .1), omega arith)

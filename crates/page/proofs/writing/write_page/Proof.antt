@@ -1,8 +1,8 @@
 use native.Mathlib.Omega.{arith}
-use Rattle.ranges.proofs.PageLaws.{block-number, block-small, rest-fits, write-none, write-stops, write-on}
+use Rattle.page.proofs.Laws.{block-number, block-small, rest-fits, write-none, write-stops, write-on}
 use borrow.Author.Needs.{needs}
-use Rattle.ranges.proofs.pages.write_page.Statement.{statement}
-use Rattle.ranges.proofs.pages.write_page.Tie as tie
+use Rattle.page.proofs.writing.write_page.Statement.{statement}
+use Rattle.page.proofs.writing.write_page.Tie as tie
 
 returns : tie.Need-returns
 returns c = (write-none _ _ _ _ _ _ _ (c .before .before .next .ensures) (c .enum-told .given .1), c .before .before .before .before .before .before .before .before .before .before .pre)

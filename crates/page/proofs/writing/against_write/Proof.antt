@@ -1,6 +1,6 @@
 use borrow.Author.Needs.{needs}
-use Rattle.ranges.proofs.pages.against_write.Statement.{statement}
-use Rattle.ranges.proofs.pages.against_write.Tie as tie
+use Rattle.page.proofs.writing.against_write.Statement.{statement}
+use Rattle.page.proofs.writing.against_write.Tie as tie
 
 returns-2 : tie.Need-returns-2
 returns-2 c = rw (c .enum-told2 .given .1)

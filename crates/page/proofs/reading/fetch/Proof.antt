@@ -1,8 +1,8 @@
-use Rattle.ranges.specs.Pages.{fetchedBy}
-use Rattle.ranges.proofs.PageLaws.{fetched-all, fetched-zero}
+use Rattle.page.specs.Pages.{fetchedBy}
+use Rattle.page.proofs.Laws.{fetched-all, fetched-zero}
 use borrow.Author.Needs.{needs}
-use Rattle.ranges.proofs.pages.fetch.Statement.{statement}
-use Rattle.ranges.proofs.pages.fetch.Tie as tie
+use Rattle.page.proofs.reading.fetch.Statement.{statement}
+use Rattle.page.proofs.reading.fetch.Tie as tie
 
 returns : tie.Need-returns
 returns c = fetched-all _ _ _ _ (c .before .before .before .before .before .before .looked .given .1) (c .before .before .before .len .ensures) (c .before .before .paste .ensures)

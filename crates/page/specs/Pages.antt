@@ -16,7 +16,7 @@ use Rattle.lookup.specs.Lookup.{look}
 use Rattle.pool.specs.declared.answer.Refusal as R
 use Rattle.pool.specs.declared.answer.Against.{Against}
 use Rattle.pool.specs.declared.answer.Against.the-variants.{Why, Nothing as Fine}
-use Rattle.ranges.specs.Each.{Part, partOf}
+use Rattle.page.specs.Each.{Part, partOf}
 
 -- a write's page: lookup for writing always gives a frame or refuses
 abbrev pub againstWrite : Looked → Against

@@ -1,6 +1,6 @@
 use borrow.Author.Needs.{needs}
-use Rattle.ranges.proofs.pages.against_read.Statement.{statement}
-use Rattle.ranges.proofs.pages.against_read.Tie as tie
+use Rattle.page.proofs.reading.against_read.Statement.{statement}
+use Rattle.page.proofs.reading.against_read.Tie as tie
 
 returns-3 : tie.Need-returns-3
 returns-3 c = rw (c .enum-told3 .given .1)

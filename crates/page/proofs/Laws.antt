@@ -19,8 +19,8 @@ use Rattle.lookup.specs.Lookup.{look}
 use Rattle.pool.specs.declared.answer.Refusal.{Refusal}
 use Rattle.pool.specs.declared.answer.Against.{Against}
 use Rattle.pool.specs.declared.answer.Against.the-variants.{Why, Nothing as Fine}
-use Rattle.ranges.specs.Each.{partOf}
-use Rattle.ranges.specs.Pages.{againstWrite, storedBy, wrotePage, writeBy, writePage, committedPage, commitPage, readOf, againstRead, fetchedBy, readThrough, glanceOf, quiet, lookRead, readBy, readPage}
+use Rattle.page.specs.Each.{partOf}
+use Rattle.page.specs.Pages.{againstWrite, storedBy, wrotePage, writeBy, writePage, committedPage, commitPage, readOf, againstRead, fetchedBy, readThrough, glanceOf, quiet, lookRead, readBy, readPage}
 
 -- bytes into a frame
 module _ (Y bytes : List ℕ) (from : ℕ) (b : BlockRange) (P U : List ℕ) (t : Told) {k : Looked} where

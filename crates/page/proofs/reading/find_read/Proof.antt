@@ -1,7 +1,7 @@
-use Rattle.ranges.proofs.PageLaws.{look-quiet}
+use Rattle.page.proofs.Laws.{look-quiet}
 use borrow.Author.Needs.{needs}
-use Rattle.ranges.proofs.pages.find_read.Statement.{statement}
-use Rattle.ranges.proofs.pages.find_read.Tie as tie
+use Rattle.page.proofs.reading.find_read.Statement.{statement}
+use Rattle.page.proofs.reading.find_read.Tie as tie
 
 returns : tie.Need-returns
 returns c = look-quiet _ _ _ _ _ _ _ (c .before .before .before .before .before .before .before .find-page .ensures)

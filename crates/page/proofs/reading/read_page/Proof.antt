@@ -1,8 +1,8 @@
 use native.Mathlib.Omega.{arith}
-use Rattle.ranges.proofs.PageLaws.{block-number, block-small, rest-fits, read-none, read-stops, read-on}
+use Rattle.page.proofs.Laws.{block-number, block-small, rest-fits, read-none, read-stops, read-on}
 use borrow.Author.Needs.{needs}
-use Rattle.ranges.proofs.pages.read_page.Statement.{statement}
-use Rattle.ranges.proofs.pages.read_page.Tie as tie
+use Rattle.page.proofs.reading.read_page.Statement.{statement}
+use Rattle.page.proofs.reading.read_page.Tie as tie
 
 returns : tie.Need-returns
 returns c = (read-none _ _ _ _ _ _ _ _ _ (c .before .before .next .ensures) (c .enum-told .given .1), c .before .before .before .before .before .before .before .before .before .pre)
