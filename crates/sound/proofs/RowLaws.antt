@@ -1,14 +1,14 @@
 -- Turns of the walk along the page entries. Assumes nothing.
 use mathlib.Core.Path.{_≡_, refl, sym, ap, _∙_}
-use mathlib.Core.Bool.{Bool, true, false, _&&_, and-assoc, and-true}
+use mathlib.Core.Bool.{Bool, true, false, _&&_, _||_, not, and-assoc, and-true}
 use mathlib.Core.List.{List}
-use Prim.Native.Nat.{ℕ, zero, suc, _+_, _-_, _*_, _/_, _≤_, _<_}
+use Prim.Native.Nat.{ℕ, zero, suc, _+_, _-_, _*_, _/_, _%_, _≤_, _<_}
 use native.Mathlib.Omega.{arith}
 use native.Mathlib.Numerals.{add-one}
-use lib.Dec.{eqb, leb}
+use lib.Dec.{eqb, leb, ltb}
 use lib.ListN.{length, getD, set}
 use lib.Seq.{set-out}
-use borrow.Author.Tests.{eq-eqb, ne-eqb, eqb-true, eqb-false, lt-ltb}
+use borrow.Author.Tests.{eq-eqb, ne-eqb, eqb-true, eqb-false, le-leb, lt-ltb}
 use Rattle.logic.specs.Pick.{pick}
 use Rattle.logic.specs.Below.{allBelow, sumBelow}
 use Rattle.logic.proofs.Laws.{all-next}
@@ -53,6 +53,30 @@ row-same hidden size F i e row h =
 pub row-more : (hidden : Bool) (size F i e : ℕ) (row : Row) {b : Bool} → (e ≡ 0 → ⊥) → b ≡ entryOk hidden size F i e → rowOf (row .ok && b) (row .pins + e / 16384) (row .seen + 1) ≡ rowNext hidden size F i e row
 unfolding rowNext
 row-more hidden size F i e row h p = rw (p, ne-eqb _ _ h)
+
+-- a plain entry: its frame alone
+
+module _ (e : ℕ) (most : e < 4096) where
+  plain-low : lowOf e ≡ e
+  plain-low = omega arith
+
+  pub mark-plain : (marks : List ℕ) {m : ℕ} → 1 ≤ e → m ≡ moreOf (getD marks e 0) → set marks e m ≡ markEntry marks e
+  unfolding markEntry
+  mark-plain marks l p = rw (ne-eqb e 0 (omega arith), plain-low, p)
+
+pub row-plain : (hidden : Bool) (size F i e : ℕ) (row : Row) {r : Row} → (e ≡ 0 → ⊥) → e ≤ F → F ≤ 1024 → r ≡ rowOf (row .ok && ltb i size) (row .pins) (row .seen + 1) → r ≡ rowNext hidden size F i e row
+unfolding rowNext entryOk
+row-plain hidden size F i e row h l m p =
+    let low : lowOf e ≡ e = omega arith in
+    let pins : row .pins + e / 16384 ≡ row .pins = omega arith in
+    let tag : e / 4096 % 4 ≡ 0 = omega arith in
+    p ∙ rw (ne-eqb e 0 h, low, pins, tag, le-leb 1 e (omega arith), le-leb e F l, lt-ltb e 12288 (omega arith), lt-ltb e 524288 (omega arith)) (by hidden (ltb i size))
+  where
+    by : (a b : Bool) → rowOf (row .ok && b) (row .pins) (row .seen + 1) ≡ rowOf (row .ok && (true && true && b && (a && true || not a && true && true))) (row .pins) (row .seen + 1)
+    by true true = refl
+    by true false = refl
+    by false true = refl
+    by false false = refl
 
 pub next-pins : (hidden : Bool) (size F i e : ℕ) (row : Row) {r : Row} → r ≡ rowNext hidden size F i e row → r .pins ≡ row .pins + e / 16384
 unfolding rowNext

@@ -2,18 +2,19 @@
 use mathlib.Core.Path.{_≡_, refl, sym, ap, _∙_}
 use mathlib.Core.Bool.{Bool, true, false, _&&_, _||_, not}
 use mathlib.Core.List.{List, [], _∷_}
-use Prim.Native.Nat.{ℕ, zero, suc, _+_, _-_, _≤_, _<_}
+use Prim.Native.Nat.{ℕ, zero, suc, _+_, _-_, _*_, _≤_, _<_}
 use native.Mathlib.Omega.{arith}
 use native.Mathlib.Numerals.{add-one}
 use lib.Dec.{eqb, leb}
-use lib.ListN.{getD, set, replicate}
-use borrow.Author.Tests.{eq-eqb, eqb-true}
+use lib.ListN.{length, getD, set, replicate, List·getD-eq-default}
+use borrow.Author.Tests.{eq-eqb, ne-eqb, eqb-true, leb-false}
+use Rattle.logic.specs.Pick.{pick}
 use Rattle.logic.specs.Below.{allBelow}
 use Rattle.logic.proofs.Laws.{all-below, below-all}
 use Rattle.logic.proofs.Means.{Means, both, equal}
 use Rattle.node.specs.declared.Node.{Node}
 use Rattle.node.specs.Node.{nodeBy, freeNode}
-use Rattle.tables.specs.Tables.{wordOf, nodeOf}
+use Rattle.tables.specs.Tables.{wordOf, recordOf, nodeOf}
 use Rattle.sound.specs.Tree.{blankNode, numbersOk, linkedOf, namedOk, belowOk, linksOk, nodeOk, linksTo, stepTo, stepsUp, noneAt, chainsEnd}
 
 pub links-next : (nodes : List ℕ) (k : ℕ) {s : List ℕ} {w : ℕ} → s ≡ linksTo nodes k → w ≡ wordOf nodes k 1 → set s (k + 1) w ≡ linksTo nodes (k + 1)
@@ -24,11 +25,35 @@ pub step-next : (up : List ℕ) (k : ℕ) {s : List ℕ} {w : ℕ} → s ≡ ste
 unfolding stepTo
 step-next up k p q = rw (add-one, p, q)
 
-pub links-by : (nodes : List ℕ) (i : ℕ) (n : Node) {l r k a b : ℕ} → l ≡ linkedOf nodes (n .left) 1 → r ≡ linkedOf nodes (n .right) 1 → k ≡ linkedOf nodes (n .parent) 0 → a ≡ linkedOf nodes (n .parent) 2 → b ≡ linkedOf nodes (n .parent) 3 →
-    ((eqb (n .kind) 3 && (eqb l (i + 1) && eqb r (i + 1) && not (eqb (n .left) (n .right))) || not (eqb (n .kind) 3) && (eqb (n .left) 0 && eqb (n .right) 0))
-    && (eqb (n .parent) 0 || (eqb k 3 && (eqb a (i + 1) || eqb b (i + 1))))) ≡ linksOk nodes i n
-unfolding linksOk namedOk belowOk
-links-by nodes i n p q s t u = rw (p, q, s, t, u)
+pub links-by : (nodes : List ℕ) (i : ℕ) (n : Node) {c p : Bool} → c ≡ pick (eqb (n .kind) 3) (namedOk nodes i n) (eqb (n .left) 0 && eqb (n .right) 0) → p ≡ pick (eqb (n .parent) 0) true (belowOk nodes i n) → (c && p) ≡ linksOk nodes i n
+unfolding linksOk
+links-by nodes i n h k = rw (h, k) (by (eqb (n .kind) 3) (namedOk nodes i n) (eqb (n .left) 0 && eqb (n .right) 0) (eqb (n .parent) 0) (belowOk nodes i n))
+  where
+    by : (a x y b z : Bool) → (pick a x y && pick b true z) ≡ ((a && x || not a && y) && (b || z))
+    by true true y true z = refl
+    by true true y false z = refl
+    by true false y b z = refl
+    by false x y true z = refl
+    by false x y false z = refl
+
+-- a record is its words: one past the table's end is free, and its words are 0
+
+module _ (nodes : List ℕ) (len : length nodes ≡ 1024) where
+  word-past : (n k : ℕ) → 64 ≤ n → wordOf nodes n k ≡ 0
+  unfolding wordOf
+  word-past n k l = List·getD-eq-default nodes 0 (omega arith)
+
+  node-is : (n : ℕ) → nodeOf nodes n ≡ recordOf nodes n
+  unfolding nodeOf recordOf
+  node-is n = by (leb (n * 16 + 16) (length nodes)) refl
+    where
+      by : (b : Bool) → leb (n * 16 + 16) (length nodes) ≡ b → pick b (recordOf nodes n) freeNode ≡ recordOf nodes n
+      by true t = refl
+      by false t = let l : 64 ≤ n = let q = leb-false (n * 16 + 16) (length nodes) t in omega arith in simp word-past
+
+  pub parent-by : (i : ℕ) (n : Node) {p : Node} → (n .parent ≡ 0 → ⊥) → p ≡ nodeOf nodes (n .parent - 1) → (eqb (p .kind) 3 && (eqb (p .left) (i + 1) || eqb (p .right) (i + 1))) ≡ pick (eqb (n .parent) 0) true (belowOk nodes i n)
+  unfolding belowOk linkedOf recordOf
+  parent-by i n h e = rw (e, node-is (n .parent - 1), ne-eqb (n .parent) 0 h)
 
 -- a free node: blank, and nothing else to test
 

@@ -1,8 +1,10 @@
 // Page entries, row by row: each by itself, the pins of a row, and how often each frame stands.
 ghost use mathlib.Core.Path.{_≡_};
-ghost use Prim.Native.Nat.{_≤_, _<_};
+ghost use mathlib.Core.Bool.{_&&_};
+ghost use Prim.Native.Nat.{_+_, _≤_, _<_};
+ghost use lib.Dec.{ltb};
 ghost use lib.ListN.{length};
-ghost use Rattle.sound.specs.Rows.{entryOk, rowNext, walked, rowCount, rowTest, moreOf, markEntry, markRun, markRows, rowsOk, framesOk, oneIf};
+ghost use Rattle.sound.specs.Rows.{entryOk, rowNext, walked, rowCount, rowOf, rowTest, moreOf, markEntry, markRun, markRows, rowsOk, framesOk, oneIf};
 ghost use Rattle.tables.specs.Tables.{entryOf};
 
 // A row so far: its entries are good, their pins add up to this, and so many are there.
@@ -68,6 +70,20 @@ pub fn mark_entry(marks: &mut [u8], e: u32)
     }
 }
 
+// A frame with no tag and no pins, as most entries are: good below the size, and marked without a test of the index.
+fn plain_step(marks: &mut [u8], e: u32, page: u32, size: u32, row: Row) -> Row
+    requires { ⌜ (1 ≤ e) × (e < 4096) × (e < length (now marks)) × (row .seen < 64) ⌝ }
+    ensures { λ r. ⌜ (r ≡ rowOf (row .ok && ltb page size) (row .pins) (row .seen + 1)) × (now (marks .exit) ≡ markEntry (now (marks .entry)) e) ⌝ }
+{
+    let mark = marks[e as usize];
+    marks[e as usize] = more(mark);
+    Row {
+        ok: row.ok & (page < size),
+        pins: row.pins,
+        seen: row.seen + 1,
+    }
+}
+
 // An entry is tested, its pins are counted and its frame is marked; an absent one is passed over at once.
 fn entry_step(
     marks: &mut [u8],
@@ -78,11 +94,14 @@ fn entry_step(
     frames: usize,
     row: Row,
 ) -> Row
-    requires { ⌜ (row .pins ≤ 16777152) × (row .seen < 64) ⌝ }
+    requires { ⌜ (row .pins ≤ 16777152) × (row .seen < 64) × (frames ≤ 1024) × (frames < length (now marks)) ⌝ }
     ensures { λ r. ⌜ (r ≡ rowNext hidden size frames page e row) × (now (marks .exit) ≡ markEntry (now (marks .entry)) e) ⌝ }
 {
     if e == 0 {
         return row;
+    }
+    if e as usize <= frames {
+        return plain_step(marks, e, page, size, row);
     }
     mark_entry(marks, e);
     Row {
@@ -101,7 +120,7 @@ fn walk_row(
     frames: usize,
     marks: &mut [u8],
 ) -> Row
-    requires { ⌜ (length (now pages) ≡ 4096) × (node < 64) ⌝ }
+    requires { ⌜ (length (now pages) ≡ 4096) × (node < 64) × (frames ≤ 1024) × (frames < length (now marks)) ⌝ }
     ensures { λ r. ⌜ (r ≡ walked hidden size frames (now (pages .entry)) node 64)
         × (now (marks .exit) ≡ markRun (entryOf (now (pages .entry)) node) 64 (now (marks .entry))) ⌝ }
 {
@@ -122,7 +141,7 @@ fn walk_row(
 }
 
 fn row_test(nodes: &[u32], pages: &[u32], node: u32, frames: usize, marks: &mut [u8]) -> bool
-    requires { ⌜ (length (now pages) ≡ 4096) × (node < 64) ⌝ }
+    requires { ⌜ (length (now pages) ≡ 4096) × (node < 64) × (frames ≤ 1024) × (frames < length (now marks)) ⌝ }
     ensures { λ r. ⌜ (r ≡ rowTest (now (nodes .entry)) (now (pages .entry)) frames node) × (now (marks .exit) ≡ markRun (entryOf (now (pages .entry)) node) 64 (now (marks .entry))) ⌝ }
 {
     let n = tables::node_at(nodes, node);
@@ -131,7 +150,7 @@ fn row_test(nodes: &[u32], pages: &[u32], node: u32, frames: usize, marks: &mut 
 }
 
 pub fn rows_ok(nodes: &[u32], pages: &[u32], frames: usize, marks: &mut [u8]) -> bool
-    requires { ⌜ length (now pages) ≡ 4096 ⌝ }
+    requires { ⌜ (length (now pages) ≡ 4096) × (frames ≤ 1024) × (frames < length (now marks)) ⌝ }
     ensures { λ r. ⌜ (r ≡ rowsOk (now (nodes .entry)) (now (pages .entry)) frames) × (now (marks .exit) ≡ markRows (now (pages .entry)) 64 (now (marks .entry))) ⌝ }
 {
     let mut ok = true;

@@ -1,9 +1,13 @@
 // Node records: each by itself, its links both ways, the ends of the parent chains and the sum of the window starts.
 use node::Node;
 ghost use mathlib.Core.Path.{_≡_};
+ghost use mathlib.Core.Bool.{true, _&&_};
 ghost use Prim.Native.Nat.{_≤_};
+ghost use lib.Dec.{eqb};
+ghost use lib.ListN.{length};
+ghost use Rattle.logic.specs.Pick.{pick};
 ghost use Rattle.logic.specs.Below.{allBelow};
-ghost use Rattle.sound.specs.Tree.{blankNode, numbersOk, linkedOf, linksOk, nodeOk, nodesOk, linksTo, stepTo, noneAt, chainsEnd, startsSum, startsOk};
+ghost use Rattle.sound.specs.Tree.{blankNode, numbersOk, linkedOf, namedOk, belowOk, linksOk, nodeOk, nodesOk, linksTo, stepTo, noneAt, chainsEnd, startsSum, startsOk};
 
 // Nothing after the kind.
 fn is_blank(n: Node) -> bool
@@ -44,22 +48,41 @@ fn linked(nodes: &[u32], link: u32, k: u32) -> u32
     tables::word_at(nodes, link - 1, k)
 }
 
-// A hidden node's two children name it, another node has none, and a parent is hidden and names the node.
+// A hidden node's two children name it, and another node has none.
+fn children_ok(nodes: &[u32], node: u32, n: Node) -> bool
+    ensures { λ r. ⌜ r ≡ pick (eqb (n .kind) 3) (namedOk (now (nodes .entry)) node n) (eqb (n .left) 0 && eqb (n .right) 0) ⌝ }
+{
+    if n.kind == Node::HIDDEN {
+        let me = node as u64 + 1;
+        return (linked(nodes, n.left, 1) as u64 == me)
+            & (linked(nodes, n.right, 1) as u64 == me)
+            & (n.left != n.right);
+    }
+    (n.left == Node::NONE) & (n.right == Node::NONE)
+}
+
+// A parent is hidden and names the node.
+fn parent_ok(nodes: &[u32], node: u32, n: Node) -> bool
+    requires { ⌜ length (now nodes) ≡ 1024 ⌝ }
+    ensures { λ r. ⌜ r ≡ pick (eqb (n .parent) 0) true (belowOk (now (nodes .entry)) node n) ⌝ }
+{
+    if n.parent == Node::NONE {
+        return true;
+    }
+    let me = node as u64 + 1;
+    let p = tables::node_at(nodes, n.parent - 1);
+    (p.kind == Node::HIDDEN) & ((p.left as u64 == me) | (p.right as u64 == me))
+}
+
 fn links_ok(nodes: &[u32], node: u32, n: Node) -> bool
+    requires { ⌜ length (now nodes) ≡ 1024 ⌝ }
     ensures { λ r. ⌜ r ≡ linksOk (now (nodes .entry)) node n ⌝ }
 {
-    let me = node as u64 + 1;
-    let childless = (n.left == 0) & (n.right == 0);
-    let named = (linked(nodes, n.left, 1) as u64 == me)
-        & (linked(nodes, n.right, 1) as u64 == me)
-        & (n.left != n.right);
-    let below = (linked(nodes, n.parent, 0) == Node::HIDDEN)
-        & ((linked(nodes, n.parent, 2) as u64 == me) | (linked(nodes, n.parent, 3) as u64 == me));
-    let hidden = n.kind == Node::HIDDEN;
-    ((hidden & named) | ((n.kind != Node::HIDDEN) & childless)) & ((n.parent == 0) | below)
+    children_ok(nodes, node, n) & parent_ok(nodes, node, n)
 }
 
 fn node_ok(nodes: &[u32], node: u32, next: u32) -> bool
+    requires { ⌜ length (now nodes) ≡ 1024 ⌝ }
     ensures { λ r. ⌜ r ≡ nodeOk (now (nodes .entry)) next node ⌝ }
 {
     let n = tables::node_at(nodes, node);
@@ -70,6 +93,7 @@ fn node_ok(nodes: &[u32], node: u32, next: u32) -> bool
 }
 
 pub fn nodes_ok(nodes: &[u32], next: u32) -> bool
+    requires { ⌜ length (now nodes) ≡ 1024 ⌝ }
     ensures { λ r. ⌜ r ≡ nodesOk (now (nodes .entry)) next ⌝ }
 {
     let mut ok = true;

@@ -41,7 +41,7 @@ shared-slice-read-e c = omega (arith, walk-inside _ _ _ _ _ (c .before .before .
 entry-step-requires : tie.Need-entry-step-requires Inv-loop μ-loop
 entry-step-requires c κs =
     let w = walk-inside _ _ _ _ _ (c .before .before .before .before .loop .i) (c .before .before .before .before .loop .inv .3) (c .before .before .before .before .loop .inv .5) (c .before .before .before .before .loop .inv .0) (c .before .before .if1 .taken) in
-    (omega arith, w .1)
+    (omega arith, w .1, search needs, search needs)
 
 add-i : tie.Need-add-i Inv-loop μ-loop
 add-i c = omega (arith, walk-inside _ _ _ _ _ (c .before .before .before .before .before .before .before .loop .i) (c .before .before .before .before .before .before .before .loop .inv .3) (c .before .before .before .before .before .before .before .loop .inv .5) (c .before .before .before .before .before .before .before .loop .inv .0) (c .before .before .before .before .before .if1 .taken) .0)

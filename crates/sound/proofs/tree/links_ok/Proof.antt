@@ -4,20 +4,7 @@ use Rattle.sound.proofs.tree.links_ok.Statement.{statement}
 use Rattle.sound.proofs.tree.links_ok.Tie as tie
 
 returns : tie.Need-returns
-returns c = links-by _ _ _ (c .before .before .before .before .before .before .before .before .linked .ensures) (c .before .before .before .before .before .before .before .linked2 .ensures) (c .before .before .before .before .before .linked3 .ensures) (c .before .before .before .before .linked4 .ensures) (c .before .before .before .linked5 .ensures)
+returns c = links-by _ _ _ (c .before .children-ok .ensures) (c .parent-ok .ensures)
 
 pub links-ok-spec : {M : Type 1} → statement M
-links-ok-spec =
-    tie.close
-    (tie.spec
-    (λ c. search needs)
-    (λ c κs. search needs)
-    (λ c. search needs)
-    (λ c κs. search needs)
-    (λ c. search needs)
-    (λ c κs. search needs)
-    (λ c κs. search needs)
-    (λ c. search needs)
-    (λ c κs. search needs)
-    (λ c. search needs)
-    returns)
+links-ok-spec = tie.close (tie.spec (λ c κs. search needs) (λ c κs. search needs) returns)
