@@ -8,10 +8,12 @@ use native.Mathlib.Numerals.{add-one}
 use lib.Dec.{eqb, ltb}
 use lib.ListN.{length, set}
 use borrow.Author.Tests.{eq-eqb, ne-eqb, lt-ltb, le-ltb}
+use Rattle.logic.proofs.Means.{equal, split}
 use Rattle.node.specs.declared.Node.{Node}
 use Rattle.node.specs.Node.{hiddenOf}
 use Rattle.tables.specs.declared.Mapping.{Mapping}
-use Rattle.tables.specs.Tables.{nodeOf, mappingOf}
+use Rattle.tables.specs.Tables.{nodeOf, mappingOf, mappingBy}
+use Rattle.tables.proofs.Laws.{run-rest}
 use Rattle.notices.specs.declared.Notice.{Notice}
 use Rattle.notices.specs.declared.Due.{Due}
 use Rattle.notices.specs.declared.Due.the-variants.{Notice as Tell, Nothing}
@@ -54,6 +56,16 @@ module _ (M : List ℕ) (t : Told) (i object offset len op : ℕ) {m : Mapping} 
 pub object-next : (M : List ℕ) (t : Told) (k object offset len op : ℕ) {s r : Told} → s ≡ tellObject M t k object offset len op → r ≡ tellPlace M s k object offset len op → r ≡ tellObject M t (k + 1) object offset len op
 unfolding tellObject
 object-next M t k object offset len op p h = h ∙ rw (add-one, p)
+
+place-none : (M : List ℕ) (t : Told) (i object offset len op : ℕ) → mappingOf M i ≡ mappingBy 0 0 0 0 → tellPlace M t i object offset len op ≡ t
+place-none M t i object offset len op e =
+    split (equal 0 object)
+    (λ h. sym (place-quiet M t i object offset len op (sym e) h (overlap-free (mappingBy 0 0 0 0) offset len op refl) refl))
+    (λ h. sym (place-other M t i object offset len op (sym e) h))
+
+pub object-end : (M : List ℕ) (t : Told) (k object offset len op : ℕ) → k ≤ 64 → ((i : ℕ) → k ≤ i → i < 64 → mappingOf M i ≡ mappingBy 0 0 0 0) → tellObject M t k object offset len op ≡ tellObject M t 64 object offset len op
+unfolding tellObject
+object-end M t k object offset len op l rest = run-rest (λ n. tellObject M t n object offset len op) k 64 l (λ j a b. place-none M (tellObject M t j object offset len op) j object offset len op (rest j a b))
 
 module _ (N M : List ℕ) (node lo hi op : ℕ) (t : Told) {n : Node} (e : n ≡ nodeOf N node) (k : ℕ) (pos : 0 < k) where
   one-less : k ≡ suc (k - 1)

@@ -109,7 +109,7 @@ fn tell_place(
     count
 }
 
-// An object's mappings, in list order.
+// An object's mappings, in list order; the blank places after the last are passed over.
 pub fn tell_object(
     mappings: &[u32],
     notices: &mut [u32],
@@ -121,9 +121,10 @@ pub fn tell_object(
 ) -> usize
     ensures { λ r. ⌜ toldOf (now (notices .exit)) r ≡ tellObject (now (mappings .entry)) (toldOf (now (notices .entry)) count) 64 object offset len op ⌝ }
 {
+    let places = tables::live_places(mappings);
     let mut count = count;
     let mut i: u32 = 0;
-    while i < 64 {
+    while i < places {
         count = tell_place(mappings, notices, count, i, object, offset, len, op);
         i += 1;
     }

@@ -40,7 +40,7 @@ fn head_ok(next: u32) -> bool
 }
 
 fn tables_ok(nodes: &[u32], pages: &[u32], used: &[u8], mappings: &[u32], next: u32) -> bool
-    requires { ⌜ (length (now nodes) ≡ 1024) × (length (now pages) ≡ 4096) × (length (now used) ≤ 1024) ⌝ }
+    requires { ⌜ (length (now nodes) ≡ 1024) × (length (now pages) ≡ 4096) × (length (now used) ≤ 1024) × (length (now mappings) ≡ 256) ⌝ }
     ensures { λ r. ⌜ r ≡ tablesOk (now (nodes .entry)) (now (pages .entry)) (now (used .entry)) (now (mappings .entry)) next ⌝ }
 {
     let mut marks = [0u8; 1025];

@@ -1,10 +1,11 @@
 // Mappings: live ones stand first, in the order of appending, each with a number of its own.
 use tables::Mapping;
 ghost use mathlib.Core.Path.{_≡_};
-ghost use Prim.Native.Nat.{_<_};
+ghost use Prim.Native.Nat.{_≤_, _<_};
+ghost use lib.ListN.{length};
 ghost use Rattle.logic.specs.Below.{allBelow};
 ghost use Rattle.tables.specs.Tables.{mappingOf, numberOf};
-ghost use Rattle.sound.specs.Maps.{mappingOk, blankOf, placeOk, placesOk, onceAt, mappingsOk};
+ghost use Rattle.sound.specs.Maps.{mappingOk, blankOf, placeOk, onceAt, mappingsOk};
 ghost use Rattle.sound.specs.Rows.{markRun};
 
 // A mapping shows pages below 64 of a leaf.
@@ -37,23 +38,25 @@ fn place_ok(nodes: &[u32], mappings: &[u32], place: u32) -> bool
     mapping_ok(nodes, m)
 }
 
-fn places_ok(nodes: &[u32], mappings: &[u32]) -> bool
-    ensures { λ r. ⌜ r ≡ placesOk (now (nodes .entry)) (now (mappings .entry)) ⌝ }
+// The first places of the list.
+fn places_ok(nodes: &[u32], mappings: &[u32], places: u32) -> bool
+    requires { ⌜ places ≤ 64 ⌝ }
+    ensures { λ r. ⌜ r ≡ allBelow (placeOk (now (nodes .entry)) (now (mappings .entry))) places ⌝ }
 {
     let mut ok = true;
     let mut i = 0;
-    while i < 64 {
+    while i < places {
         ok = ok & place_ok(nodes, mappings, i);
         i += 1;
     }
     ok
 }
 
-fn mark_numbers(mappings: &[u32], marks: &mut [u8])
-    ensures { λ _. ⌜ now (marks .exit) ≡ markRun (numberOf (now (mappings .entry))) 64 (now (marks .entry)) ⌝ }
+fn mark_numbers(mappings: &[u32], places: u32, marks: &mut [u8])
+    ensures { λ _. ⌜ now (marks .exit) ≡ markRun (numberOf (now (mappings .entry))) places (now (marks .entry)) ⌝ }
 {
     let mut i = 0;
-    while i < 64 {
+    while i < places {
         let number = tables::number_at(mappings, i);
         crate::rows::mark_entry(marks, number);
         i += 1;
@@ -72,10 +75,13 @@ fn all_once(marks: [u8; 65]) -> bool
     ok
 }
 
+// Blank places at the end pass both tests, so they are not looked at.
 pub fn mappings_ok(nodes: &[u32], mappings: &[u32]) -> bool
+    requires { ⌜ length (now mappings) ≡ 256 ⌝ }
     ensures { λ r. ⌜ r ≡ mappingsOk (now (nodes .entry)) (now (mappings .entry)) ⌝ }
 {
+    let places = tables::live_places(mappings);
     let mut marks = [0u8; 65];
-    mark_numbers(mappings, &mut marks);
-    places_ok(nodes, mappings) & all_once(marks)
+    mark_numbers(mappings, places, &mut marks);
+    places_ok(nodes, mappings, places) & all_once(marks)
 }

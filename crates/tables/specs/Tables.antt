@@ -72,6 +72,10 @@ mappingOf mappings i =
 unfoldable pub numberOf : List ℕ → ℕ → ℕ
 numberOf mappings i = mappingOf mappings i .number
 
+-- word a + k of a table is 0
+abbrev pub zeroFrom : List ℕ → ℕ → ℕ → Bool
+zeroFrom words a k = eqb (getD words (a + k) 0) 0
+
 unfoldable pub isFree : List ℕ → ℕ → Bool
 isFree nodes n = eqb (wordOf nodes n 0) 0
 

@@ -1,8 +1,10 @@
 // The lent tables, read and written at any index: past its end a table reads as 0 (or as a free record), and a write there does nothing.
+mod live;
 mod rows;
 
 use entry::PageState;
 use entry::Slot;
+pub use live::live_places;
 use logic::Found;
 use node::Node;
 pub use rows::move_row;

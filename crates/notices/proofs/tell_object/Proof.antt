@@ -1,18 +1,18 @@
-use mathlib.Core.Path.{_≡_, refl}
+use mathlib.Core.Path.{_≡_, refl, _∙_}
 use Prim.Native.Nat.{_≤_, _-_}
 use native.Mathlib.Omega.{arith}
 use lib.ListN.{length}
 use Rattle.notices.specs.Notices.{toldOf, tellObject}
-use Rattle.notices.proofs.Laws.{object-next}
+use Rattle.notices.proofs.Laws.{object-next, object-end}
 use borrow.Author.Needs.{needs}
 use Rattle.notices.proofs.tell_object.Statement.{statement}
 use Rattle.notices.proofs.tell_object.Tie as tie
 
 abbrev Inv-loop : tie.InvT-loop
-Inv-loop mappings notices₀ count object offset len op count₀ i₀ notices count' i = (i ≤ 64) × (length notices ≡ length notices₀) × (toldOf notices count' ≡ tellObject mappings (toldOf notices₀ count₀) i object offset len op)
+Inv-loop mappings notices₀ count object offset len op places count₀ i₀ notices count' i = (i ≤ places) × (length notices ≡ length notices₀) × (toldOf notices count' ≡ tellObject mappings (toldOf notices₀ count₀) i object offset len op)
 
 abbrev μ-loop : tie.MeasureT-loop
-μ-loop mappings notices₀ count object offset len op count₀ i₀ notices count' i = 64 - i
+μ-loop mappings notices₀ count object offset len op places count₀ i₀ notices count' i = places - i
 
 loop-holds : tie.Need-loop-holds Inv-loop μ-loop
 unfolding tellObject
@@ -23,8 +23,9 @@ loop-again c = (search needs, search needs, object-next _ _ _ _ _ _ _ (c .before
 
 returns : tie.Need-returns Inv-loop μ-loop
 returns c =
-    let h : c .before .loop .i ≡ 64 = omega arith in
-    rw h at (c .before .loop .inv .2)
+    let h : c .before .loop .i ≡ c .before .before .live-places .result = omega arith in
+    let live = c .before .before .live-places .ensures in
+    (rw h at (c .before .loop .inv .2)) ∙ object-end _ _ _ _ _ _ _ (live .0) (live .1)
 
 pub tell-object-spec : {M : Type 1} → statement M
 tell-object-spec =
@@ -32,6 +33,7 @@ tell-object-spec =
     (tie.spec
     Inv-loop
     μ-loop
+    (λ c κs. search needs)
     loop-holds
     (λ c κs. search needs)
     (λ c. search needs)

@@ -10,10 +10,10 @@ use Rattle.sound.proofs.maps.mark_numbers.Statement.{statement}
 use Rattle.sound.proofs.maps.mark_numbers.Tie as tie
 
 abbrev Inv-loop : tie.InvT-loop
-Inv-loop mappings marks₀ i₀ marks i = (i ≤ 64) × (length marks ≡ length marks₀) × (marks ≡ markRun (numberOf mappings) i marks₀)
+Inv-loop mappings places marks₀ i₀ marks i = (i ≤ places) × (length marks ≡ length marks₀) × (marks ≡ markRun (numberOf mappings) i marks₀)
 
 abbrev μ-loop : tie.MeasureT-loop
-μ-loop mappings marks₀ i₀ marks i = 64 - i
+μ-loop mappings places marks₀ i₀ marks i = places - i
 
 loop-holds : tie.Need-loop-holds Inv-loop μ-loop
 unfolding markRun
@@ -24,7 +24,7 @@ loop-again c = (search needs, search needs, run-next _ _ _ (c .before .before .b
 
 returns : tie.Need-returns Inv-loop μ-loop
 returns c =
-    let h : c .before .loop .i ≡ 64 = omega arith in
+    let h : c .before .loop .i ≡ c .before .before .before .before .args .places = omega arith in
     rw h at (c .before .loop .inv .2)
 
 pub mark-numbers-spec : {M : Type 1} → statement M

@@ -3,16 +3,16 @@ use Prim.Native.Nat.{_≤_, _-_}
 use native.Mathlib.Omega.{arith}
 use Rattle.logic.specs.Below.{allBelow}
 use Rattle.logic.proofs.Laws.{all-next}
-use Rattle.sound.specs.Maps.{placeOk, placesOk}
+use Rattle.sound.specs.Maps.{placeOk}
 use borrow.Author.Needs.{needs}
 use Rattle.sound.proofs.maps.places_ok.Statement.{statement}
 use Rattle.sound.proofs.maps.places_ok.Tie as tie
 
 abbrev Inv-loop : tie.InvT-loop
-Inv-loop nodes mappings ok₀ i₀ ok i = (i ≤ 64) × (ok ≡ allBelow (placeOk nodes mappings) i)
+Inv-loop nodes mappings places ok₀ i₀ ok i = (i ≤ places) × (ok ≡ allBelow (placeOk nodes mappings) i)
 
 abbrev μ-loop : tie.MeasureT-loop
-μ-loop nodes mappings ok₀ i₀ ok i = 64 - i
+μ-loop nodes mappings places ok₀ i₀ ok i = places - i
 
 loop-holds : tie.Need-loop-holds Inv-loop μ-loop
 unfolding allBelow
@@ -22,9 +22,8 @@ loop-again : tie.Need-loop-again Inv-loop μ-loop
 loop-again c = (search needs, all-next _ _ (c .before .before .loop .inv .1) (c .place-ok .ensures))
 
 returns : tie.Need-returns Inv-loop μ-loop
-unfolding placesOk
 returns c =
-    let h : c .before .loop .i ≡ 64 = omega arith in
+    let h : c .before .loop .i ≡ c .before .before .before .before .args .places = omega arith in
     rw h at (c .before .loop .inv .1)
 
 pub places-ok-spec : {M : Type 1} → statement M
