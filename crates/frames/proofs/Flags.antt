@@ -1,16 +1,16 @@
 -- Laws of the loops over flags. Assumes nothing.
 use mathlib.Core.Path.{_≡_, refl, sym, _∙_}
-use mathlib.Core.Bool.{Bool, true, false}
+use mathlib.Core.Bool.{Bool, true, false, not}
 use mathlib.Core.List.{List}
 use Prim.Native.Nat.{ℕ, zero, suc, _+_, _-_, _≤_, _<_}
 use native.Mathlib.Omega.{arith}
+use lib.Dec.{eqb}
 use lib.ListN.{length, getD}
-use borrow.Author.Tests.{eq-eqb, ne-eqb, lt-ltb, le-ltb}
-use Rattle.logic.specs.Pick.{pick}
-use Rattle.logic.specs.Below.{sumBelow, firstFrom}
+use borrow.Author.Tests.{eq-eqb, ne-eqb, lt-ltb, le-ltb, not-true}
+use Rattle.logic.specs.Below.{allBelow, sumBelow, firstFrom}
 use Rattle.logic.specs.declared.Found.{Found}
 use Rattle.logic.specs.declared.Found.the-variants.{At, Nothing}
-use Rattle.logic.proofs.Laws.{first-next, sum-next}
+use Rattle.logic.proofs.Laws.{first-next, sum-next, and-left, and-right}
 use Rattle.frames.specs.Frames.{idleOf, oneIdle, freeCount}
 
 module _ (used : List ℕ) (f : ℕ) where
@@ -26,6 +26,10 @@ module _ (used : List ℕ) (f : ℕ) where
   unfolding idleOf
   idle-past h = simp (le-ltb _ _ h)
 
+  pub mark-busy : f < length used → not (eqb (getD used f 0) 0) ≡ not (idleOf used f)
+  unfolding idleOf
+  mark-busy h = simp (lt-ltb _ _ h)
+
   pub one-zero : f < length used → getD used f 0 ≡ 0 → 1 ≡ oneIdle used f
   unfolding oneIdle
   one-zero h e = rw (idle-zero h e)
@@ -38,27 +42,19 @@ module _ (used : List ℕ) (f : ℕ) where
   unfolding oneIdle
   one-past h = rw (idle-past h)
 
-none-by : (b : Bool) → _≡_ {A = ℕ} (pick b 1 0) 0 → b ≡ false
-none-by true e = absurd (omega arith)
-none-by false e = refl
-
-none-idle : (used : List ℕ) (f : ℕ) → oneIdle used f ≡ 0 → idleOf used f ≡ false
-unfolding oneIdle
-none-idle used f h = none-by (idleOf used f) h
-
 -- a turn that counts nothing
 pub sum-kept : (f : ℕ → ℕ) (n : ℕ) {b : ℕ} → b ≡ sumBelow f n → 0 ≡ f n → b ≡ sumBelow f (n + 1)
 sum-kept f n {b} p q = let e : b + 0 ≡ b = omega arith in sym e ∙ sum-next f n p q
 
--- a search passes over n frames none of which is free
-pub skip : (used : List ℕ) (a n m : ℕ) → a + n ≤ m → sumBelow (λ k. oneIdle used (a + k)) n ≡ 0 → firstFrom (idleOf used) a (m - a) ≡ firstFrom (idleOf used) (a + n) (m - (a + n))
-unfolding sumBelow
+-- a search passes over n frames that are all in use
+pub skip : (used : List ℕ) (a n m : ℕ) → a + n ≤ m → allBelow (λ k. not (idleOf used (a + k))) n ≡ true → firstFrom (idleOf used) a (m - a) ≡ firstFrom (idleOf used) (a + n) (m - (a + n))
+unfolding allBelow
 skip used a zero m l h = let e : a + 0 ≡ a = omega arith in rw e
 skip used a (suc n) m l h =
     let e : a + suc n ≡ a + n + 1 = omega arith in
-    let p : sumBelow (λ k. oneIdle used (a + k)) n ≡ 0 = omega (arith, h) in
-    let q : oneIdle used (a + n) ≡ 0 = omega (arith, h) in
-    rw e (skip used a n m (omega arith) p ∙ first-next (idleOf used) (a + n) m (omega arith) (none-idle used (a + n) q))
+    let p = and-left _ (not (idleOf used (a + n))) h in
+    let q = not-true _ (and-right (allBelow (λ k. not (idleOf used (a + k))) n) _ h) in
+    rw e (skip used a n m (omega arith) p ∙ first-next (idleOf used) (a + n) m (omega arith) q)
 
 -- past the end no frame is free
 

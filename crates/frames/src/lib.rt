@@ -1,10 +1,11 @@
 // Frames: which are in use, and their bytes inside the lent memory. No function here holds a page of its own.
 use logic::Found;
 ghost use mathlib.Core.Path.{_≡_};
+ghost use mathlib.Core.Bool.{not};
 ghost use Prim.Native.Nat.{ℕ, _+_, _-_, _^_, _≤_, _<_};
 ghost use lib.ListN.{length, set};
-ghost use Rattle.logic.specs.Below.{sumBelow, firstFrom};
-ghost use Rattle.frames.specs.Frames.{idleOf, oneIdle, freeCount, freeFrameIn, takenOf, givenOf, clearedAt, copiedAt, pastedAt, blankAt};
+ghost use Rattle.logic.specs.Below.{allBelow, firstFrom, copied};
+ghost use Rattle.frames.specs.Frames.{idleOf, freeCount, freeFrameIn, takenOf, givenOf, clearedAt, copiedAt, pastedAt, blankAt};
 
 // How many flags are frames': a pool has at most 1,024.
 fn frames_in(used: &[u8]) -> usize
@@ -16,21 +17,34 @@ fn frames_in(used: &[u8]) -> usize
     1024
 }
 
-// How many of the 64 frames from a on are free. No early exit, so that the compiler counts many at once.
-fn idle_in_block(used: &[u8], a: usize) -> u8
-    requires { ⌜ a + 64 ≤ length (now used) ⌝ }
-    ensures { λ r. ⌜ r ≡ sumBelow (λ k. oneIdle (now (used .entry)) (a + k)) 64 ⌝ }
+// Whether the n frames from a on are all in use. No early exit, so that the compiler tests many at once.
+fn all_used(used: &[u8], a: usize, n: usize) -> bool
+    requires { ⌜ a + n ≤ length (now used) ⌝ }
+    ensures { λ r. ⌜ r ≡ allBelow (λ k. not (idleOf (now (used .entry)) (a + k))) n ⌝ }
 {
-    let mut sum: u8 = 0;
+    let mut ok = true;
     let mut k = 0;
-    while k < 64 {
-        let flag = used[a + k];
+    while k < n {
+        ok = ok & (used[a + k] != 0);
         k += 1;
-        if flag == 0 {
-            sum += 1;
-        }
     }
-    sum
+    ok
+}
+
+// Where a search from a place on may start: blocks whose frames are all in use are passed over.
+fn pass(used: &[u8], from: usize, width: usize) -> usize
+    requires { ⌜ (from ≤ 1024) × (0 < width) × (width ≤ 1024) ⌝ }
+    ensures { λ r. ⌜ (r ≤ 1024) × (firstFrom (idleOf (now (used .entry))) r (1024 - r) ≡ firstFrom (idleOf (now (used .entry))) from (1024 - from)) ⌝ }
+{
+    let n = frames_in(used);
+    let mut a = from;
+    while a + width <= n {
+        if !all_used(used, a, width) {
+            return a;
+        }
+        a += width;
+    }
+    a
 }
 
 // The lowest free frame from a place on, flag by flag.
@@ -48,19 +62,13 @@ fn scan(used: &[u8], from: usize) -> Found
     Found::Nothing
 }
 
-// The lowest free frame. Blocks without one are passed over.
+// The lowest free frame: past wide blocks, then narrow ones, then flag by flag.
 pub fn free_frame(used: &[u8]) -> Found
     ensures { λ r. ⌜ r ≡ freeFrameIn (now (used .entry)) ⌝ }
 {
-    let n = frames_in(used);
-    let mut a = 0;
-    while a + 64 <= n {
-        if idle_in_block(used, a) != 0 {
-            return scan(used, a);
-        }
-        a += 64;
-    }
-    scan(used, a)
+    let block = pass(used, 0, 64);
+    let part = pass(used, block, 16);
+    scan(used, part)
 }
 
 // How many frames are free. The sum is as narrow as 1,024 allows, so that the compiler adds more at once.
@@ -130,18 +138,30 @@ pub fn copy_frame(memory: &mut [u8], to: u32, from: u32)
     }
 }
 
-// n bytes of src, from b on, put into dst from a on, where both hold them.
+// n bytes of src, from b on, put into dst from a on.
+fn paste_bytes(dst: &mut [u8], a: usize, src: &[u8], b: usize, n: usize)
+    requires { ⌜ (a + n ≤ length (now dst)) × (b + n ≤ length (now src)) ⌝ }
+    ensures { λ _. ⌜ now (dst .exit) ≡ copied (now (dst .entry)) a (now (src .entry)) b n ⌝ }
+{
+    let mut k = 0;
+    while k < n {
+        dst[a + k] = src[b + k];
+        k += 1;
+    }
+}
+
+// The same, where both hold them. A whole page is told apart, since a loop to a constant is unrolled further.
 pub fn paste(dst: &mut [u8], a: usize, src: &[u8], b: usize, n: usize)
     requires { ⌜ (a + n < 2 ^ 64) × (b + n < 2 ^ 64) ⌝ }
     ensures { λ _. ⌜ now (dst .exit) ≡ pastedAt (now (dst .entry)) a (now (src .entry)) b n ⌝ }
 {
     if a + n <= dst.len() {
         if b + n <= src.len() {
-            let mut k = 0;
-            while k < n {
-                dst[a + k] = src[b + k];
-                k += 1;
+            if n == 4096 {
+                paste_bytes(dst, a, src, b, 4096);
+                return;
             }
+            paste_bytes(dst, a, src, b, n);
         }
     }
 }

@@ -1,54 +1,36 @@
-use mathlib.Core.Path.{_≡_, refl}
-use Prim.Native.Nat.{_≤_, _-_}
-use native.Mathlib.Omega.{arith}
-use lib.ListN.{length, length-set}
-use Rattle.logic.specs.Below.{copied}
-use Rattle.frames.proofs.Laws.{paste-turn, paste-all, paste-short, paste-past}
+use mathlib.Core.Path.{refl, sym}
+use Rattle.frames.proofs.Laws.{paste-all, paste-short, paste-past}
 use borrow.Author.Needs.{needs}
 use Rattle.frames.proofs.paste.Statement.{statement}
 use Rattle.frames.proofs.paste.Tie as tie
 
-abbrev Inv-loop : tie.InvT-loop
-Inv-loop dst₀ a src b n k₀ dst k = (k ≤ n) × (length dst ≡ length dst₀) × (dst ≡ copied dst₀ a src b k)
-
-abbrev μ-loop : tie.MeasureT-loop
-μ-loop dst₀ a src b n k₀ dst k = n - k
-
-loop-holds : tie.Need-loop-holds Inv-loop μ-loop
-unfolding copied
-loop-holds c = (search needs, refl, refl)
-
-loop-again : tie.Need-loop-again Inv-loop μ-loop
-loop-again c = (search needs, simp length-set (search needs), paste-turn _ _ _ _ _ (c .before .before .loop .inv .2))
-
-returns : tie.Need-returns Inv-loop μ-loop
+returns : tie.Need-returns
 returns c =
-    let h : c .before .loop .k ≡ c .before .before .before .before .args .n = omega arith in
-    paste-all _ _ _ _ _ (c .before .before .before .if1 .taken) (c .before .before .if2 .taken) h (c .before .loop .inv .2)
+    let tests = c .before .before .before .before .before in
+    paste-all _ _ _ _ _ (tests .before .if1 .taken) (tests .if2 .taken) (sym (c .before .before .before .before .if3 .taken)) (c .before .before .paste-bytes .ensures)
 
-returns-2 : tie.Need-returns-2 Inv-loop μ-loop
-returns-2 c = paste-short _ _ _ _ _ (c .before .if1 .taken) (c .if2 .left)
+returns-2 : tie.Need-returns-2
+returns-2 c =
+    let tests = c .before .before .before .before .before in
+    paste-all _ _ _ _ _ (tests .before .if1 .taken) (tests .if2 .taken) refl (c .before .before .paste-bytes2 .ensures)
 
-returns-3 : tie.Need-returns-3 Inv-loop μ-loop
-returns-3 c = paste-past _ _ _ _ _ (c .if1 .left)
+returns-3 : tie.Need-returns-3
+returns-3 c = paste-short _ _ _ _ _ (c .before .if1 .taken) (c .if2 .left)
+
+returns-4 : tie.Need-returns-4
+returns-4 c = paste-past _ _ _ _ _ (c .if1 .left)
 
 pub paste-spec : {M : Type 1} → statement M
 paste-spec =
     tie.close
     (tie.spec
-    Inv-loop
-    μ-loop
     (λ c. search needs)
     (λ c. search needs)
-    loop-holds
-    (λ c. search needs)
-    (λ c. search needs)
-    (λ c. search needs)
-    (λ c. search needs)
-    (λ c. search needs)
-    (λ c. search needs)
-    loop-again
+    (λ c κs. search needs)
     (λ c. search needs)
     returns
+    (λ c κs. search needs)
+    (λ c. search needs)
     returns-2
-    returns-3)
+    returns-3
+    returns-4)
