@@ -15,7 +15,7 @@ use Rattle.tables.specs.declared.Mapping.{Mapping}
 use Rattle.tables.specs.Tables.{mappingOf, mappingBy, numberOf}
 use Rattle.mappings.specs.Mappings.{isFreeAt, freePlace, notAt, unused, freeNumber, withMapping, appendBy, append, isAt, placeOf, closedUp, removedBy, removed}
 use Rattle.sound.specs.Facts.{Leaf, LiveAt, Mappings}
-use Rattle.soundness.proofs.Records.{mapping-out}
+use Rattle.sound.proofs.MapLaws.{mapping-out}
 use Rattle.births.proofs.First.{First, first-is}
 use Rattle.births.proofs.Places.{place-length, place-away, place-same, skip, skip-low, skip-high, closed-length, closed-reads}
 

@@ -15,7 +15,7 @@ use Rattle.logic.proofs.Means.{equal, less, split}
 use Rattle.tables.specs.declared.Mapping.{Mapping}
 use Rattle.tables.specs.Tables.{mappingOf, mappingBy}
 use Rattle.mappings.specs.Mappings.{withMapping, closedUp}
-use Rattle.soundness.proofs.Records.{mapping-out}
+use Rattle.sound.proofs.MapLaws.{mapping-out}
 use Rattle.isolation.proofs.Bytes.{copied-inside}
 
 -- four equal words make equal mappings

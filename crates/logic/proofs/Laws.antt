@@ -102,3 +102,14 @@ pub copied-outside : (d : List ℕ) (a : ℕ) (s : List ℕ) (b n i : ℕ) → (
 unfolding copied
 copied-outside d a s b zero i h = refl
 copied-outside d a s b (suc n) i h = getD-set-other (copied d a s b n) (a + n) i (getD s (b + n) 0) 0 (h n (omega arith)) ∙ copied-outside d a s b n i (λ k l. h k (omega arith))
+
+-- a run that changes no more from k on is the same at k and at n
+
+stays : {A : Type 0} (P : ℕ → A) (k d : ℕ) → ((j : ℕ) → k ≤ j → j < d + k → P (suc j) ≡ P j) → P k ≡ P (d + k)
+stays P k zero h = let e : 0 + k ≡ k = omega arith in rw e
+stays P k (suc d) h =
+    let e : suc d + k ≡ suc (d + k) = omega arith in
+    rw e (stays P k d (λ j l m. h j l (omega arith)) ∙ sym (h (d + k) (omega arith) (omega arith)))
+
+pub run-rest : {A : Type 0} (P : ℕ → A) (k n : ℕ) → k ≤ n → ((j : ℕ) → k ≤ j → j < n → P (suc j) ≡ P j) → P k ≡ P n
+run-rest P k n l h = let e : n - k + k ≡ n = omega arith in rw e at (stays P k (n - k) (λ j a b. h j a (omega arith)))

@@ -13,7 +13,7 @@ use Rattle.node.specs.declared.Node.{Node}
 use Rattle.node.specs.Node.{hiddenOf}
 use Rattle.tables.specs.declared.Mapping.{Mapping}
 use Rattle.tables.specs.Tables.{nodeOf, mappingOf, mappingBy}
-use Rattle.tables.proofs.Laws.{run-rest}
+use Rattle.logic.proofs.Laws.{run-rest}
 use Rattle.notices.specs.declared.Notice.{Notice}
 use Rattle.notices.specs.declared.Due.{Due}
 use Rattle.notices.specs.declared.Due.the-variants.{Notice as Tell, Nothing}

@@ -8,10 +8,10 @@ use lib.Dec.{eqb}
 use lib.ListN.{length, replicate}
 use borrow.Author.Tests.{lt-leb}
 use Rattle.logic.specs.Below.{allBelow}
+use Rattle.logic.proofs.Laws.{run-rest}
 use Rattle.logic.proofs.Means.{less, split}
 use Rattle.tables.specs.declared.Mapping.{Mapping}
 use Rattle.tables.specs.Tables.{mappingOf, mappingBy, numberOf}
-use Rattle.tables.proofs.Laws.{run-rest}
 use Rattle.sound.specs.Maps.{mappingOk, blankOf, placeOk, placesOk, onceAt, mappingsOk}
 use Rattle.sound.specs.Rows.{markRun}
 use Rattle.sound.proofs.RowLaws.{mark-none}
@@ -26,14 +26,14 @@ module _ (nodes mappings : List ℕ) (i : ℕ) {m : Mapping} {b : Bool} where
   place-held e h t n = rw (n, ← e, sym h ∙ t)
 
 -- a table of 256 words has no place 64
-mapping-past : (M : List ℕ) → length M ≡ 256 → (i : ℕ) → 64 ≤ i → mappingOf M i ≡ mappingBy 0 0 0 0
+pub mapping-out : (M : List ℕ) → length M ≡ 256 → (i : ℕ) → 64 ≤ i → mappingOf M i ≡ mappingBy 0 0 0 0
 unfolding mappingOf
-mapping-past M e i l = rw (lt-leb (i * 4 + 4) (length M) (omega arith))
+mapping-out M e i l = rw (lt-leb (i * 4 + 4) (length M) (omega arith))
 
 module _ (M : List ℕ) (k : ℕ) (e : length M ≡ 256) (l : k ≤ 64) (rest : (i : ℕ) → k ≤ i → i < 64 → mappingOf M i ≡ mappingBy 0 0 0 0) where
   number-rest : (i : ℕ) → k ≤ i → numberOf M i ≡ 0
   unfolding numberOf
-  number-rest i a = ap (λ (m : Mapping). m .number) (split (less i 64) (rest i a) (λ m. mapping-past M e i (omega arith)))
+  number-rest i a = ap (λ (m : Mapping). m .number) (split (less i 64) (rest i a) (λ m. mapping-out M e i (omega arith)))
 
   marks-rest : (marks : List ℕ) → markRun (numberOf M) k marks ≡ markRun (numberOf M) 64 marks
   unfolding markRun

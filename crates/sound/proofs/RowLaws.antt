@@ -11,7 +11,7 @@ use lib.Seq.{set-out}
 use borrow.Author.Tests.{eq-eqb, ne-eqb, eqb-true, eqb-false, le-leb, lt-ltb}
 use Rattle.logic.specs.Pick.{pick}
 use Rattle.logic.specs.Below.{allBelow, sumBelow}
-use Rattle.logic.proofs.Laws.{all-next}
+use Rattle.logic.proofs.Laws.{all-next, run-rest}
 use Rattle.entry.specs.Entry.{lowOf}
 use Rattle.node.specs.declared.Node.{Node}
 use Rattle.node.specs.Node.{hiddenOf}
@@ -110,13 +110,6 @@ nothing-more f i j n l m h =
     let b′ = rw q at b in
     omega arith
 
--- a run that no longer changes stays
-stays : {A : Type 0} (P : ℕ → A) (i k : ℕ) → ((j : ℕ) → i ≤ j → j < k + i → P (suc j) ≡ P j) → P (k + i) ≡ P i
-stays P i zero h = let e : 0 + i ≡ i = omega arith in rw e
-stays P i (suc k) h =
-    let e : suc k + i ≡ suc (k + i) = omega arith in
-    rw e (h (k + i) (omega arith) (omega arith) ∙ stays P i k (λ j l m. h j l (omega arith)))
-
 absent-by : (e : ℕ) (b : Bool) → eqb e 0 ≡ b → _≡_ {A = ℕ} (pick b 0 1) 0 → e ≡ 0
 absent-by e true t h = eqb-true e 0 t
 absent-by e false t h = absurd (omega arith)
@@ -140,24 +133,24 @@ module _ (hidden : Bool) (size F : ℕ) (pages : List ℕ) (n : ℕ) where
       by false t s = let e = eqb-false i 64 t in omega arith
 
   module _ (i : ℕ) (l : i ≤ 64) (m : sumBelow (presentAt pages n) 64 ≤ sumBelow (presentAt pages n) i) where
-    rest : (j : ℕ) → i ≤ j → j < 64 - i + i → entryOf pages n j ≡ 0
+    rest : (j : ℕ) → i ≤ j → j < 64 → entryOf pages n j ≡ 0
     unfolding presentAt
     rest j a b = absent-by (entryOf pages n j) (eqb (entryOf pages n j) 0) refl (nothing-more (presentAt pages n) i j 64 a (omega arith) m)
 
-    walked-same : (j : ℕ) → i ≤ j → j < 64 - i + i → walked hidden size F pages n (suc j) ≡ walked hidden size F pages n j
+    walked-same : (j : ℕ) → i ≤ j → j < 64 → walked hidden size F pages n (suc j) ≡ walked hidden size F pages n j
     unfolding walked allBelow sumBelow entryOkAt pinsAt presentAt rowNext
     walked-same j a b =
         rw (rest j a b) (sym (row-same hidden size F j 0 (walked hidden size F pages n j) refl))
 
-    marks-same : (marks : List ℕ) (j : ℕ) → i ≤ j → j < 64 - i + i → markRun (entryOf pages n) (suc j) marks ≡ markRun (entryOf pages n) j marks
+    marks-same : (marks : List ℕ) (j : ℕ) → i ≤ j → j < 64 → markRun (entryOf pages n) (suc j) marks ≡ markRun (entryOf pages n) j marks
     unfolding markRun
     marks-same marks j a b = sym (mark-none (markRun (entryOf pages n) j marks) (entryOf pages n j) (rest j a b))
 
     pub walk-end : {row : Row} → row ≡ walked hidden size F pages n i → row ≡ walked hidden size F pages n 64
-    walk-end p = let e : 64 - i + i ≡ 64 = omega arith in p ∙ sym (rw e at (stays (walked hidden size F pages n) i (64 - i) walked-same))
+    walk-end p = p ∙ run-rest (walked hidden size F pages n) i 64 l walked-same
 
     pub marks-end : (marks : List ℕ) {t : List ℕ} → t ≡ markRun (entryOf pages n) i marks → t ≡ markRun (entryOf pages n) 64 marks
-    marks-end marks p = let e : 64 - i + i ≡ 64 = omega arith in p ∙ sym (rw e at (stays (λ k. markRun (entryOf pages n) k marks) i (64 - i) (marks-same marks)))
+    marks-end marks p = p ∙ run-rest (λ k. markRun (entryOf pages n) k marks) i 64 l (marks-same marks)
 
 pub frame-next : (used marks : List ℕ) (i : ℕ) {ok : Bool} → ok ≡ allBelow (frameOk used marks) i → (ok && eqb (getD used i 0) (getD marks (i + 1) 0) && leb (getD used i 0) 1) ≡ allBelow (frameOk used marks) (i + 1)
 unfolding frameOk

@@ -39,17 +39,17 @@ links-by nodes i n h k = rw (h, k) (by (eqb (n .kind) 3) (namedOk nodes i n) (eq
 -- a record is its words: one past the table's end is free, and its words are 0
 
 module _ (nodes : List ℕ) (len : length nodes ≡ 1024) where
-  word-past : (n k : ℕ) → 64 ≤ n → wordOf nodes n k ≡ 0
+  pub word-out : (n k : ℕ) → 64 ≤ n → wordOf nodes n k ≡ 0
   unfolding wordOf
-  word-past n k l = List·getD-eq-default nodes 0 (omega arith)
+  word-out n k l = List·getD-eq-default nodes 0 (omega arith)
 
-  node-is : (n : ℕ) → nodeOf nodes n ≡ recordOf nodes n
+  pub node-is : (n : ℕ) → nodeOf nodes n ≡ recordOf nodes n
   unfolding nodeOf recordOf
   node-is n = by (leb (n * 16 + 16) (length nodes)) refl
     where
       by : (b : Bool) → leb (n * 16 + 16) (length nodes) ≡ b → pick b (recordOf nodes n) freeNode ≡ recordOf nodes n
       by true t = refl
-      by false t = let l : 64 ≤ n = let q = leb-false (n * 16 + 16) (length nodes) t in omega arith in simp word-past
+      by false t = let l : 64 ≤ n = let q = leb-false (n * 16 + 16) (length nodes) t in omega arith in simp word-out
 
   pub parent-by : (i : ℕ) (n : Node) {p : Node} → (n .parent ≡ 0 → ⊥) → p ≡ nodeOf nodes (n .parent - 1) → (eqb (p .kind) 3 && (eqb (p .left) (i + 1) || eqb (p .right) (i + 1))) ≡ pick (eqb (n .parent) 0) true (belowOk nodes i n)
   unfolding belowOk linkedOf recordOf

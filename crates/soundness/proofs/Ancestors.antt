@@ -10,7 +10,8 @@ use lib.Seq.{getD-set-same, getD-set-other}
 use Rattle.tables.specs.Tables.{wordOf}
 use Rattle.sound.specs.Tree.{linkedOf, linksTo, stepTo, stepsUp, noneAt, chainsEnd}
 use Rattle.logic.proofs.Means.{Means, says, equal, less, split, every}
-use Rattle.soundness.proofs.Records.{linked-word, no-link, word-out}
+use Rattle.sound.proofs.TreeLaws.{word-out}
+use Rattle.soundness.proofs.Records.{linked-word, no-link}
 
 -- a table of m places, made by storing h k at place k + c for k = 0, 1, ..
 

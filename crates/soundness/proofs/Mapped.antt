@@ -12,7 +12,7 @@ use Rattle.sound.specs.Rows.{markRun}
 use Rattle.sound.specs.Maps.{mappingOk, blankOf, placeOk, placesOk, onceAt, mappingsOk}
 use Rattle.sound.specs.Facts.{LiveAt, Mappings}
 use Rattle.logic.proofs.Means.{Means, says, itself, equal, most, less, both, split, picked, below, every}
-use Rattle.soundness.proofs.Records.{mapping-out}
+use Rattle.sound.proofs.MapLaws.{mapping-out}
 use Rattle.soundness.proofs.Marks.{Tally, Shows, run-tally}
 
 abbrev blank : Mapping

@@ -1,17 +1,15 @@
 -- What is read of tables of full length: records and rows past the last are blank, and a field is its word. Assumes nothing.
 use mathlib.Core.Path.{_≡_, refl, sym, ap, _∙_}
-use mathlib.Core.Bool.{Bool, true, false}
 use mathlib.Core.List.{List}
 use Prim.Native.Nat.{ℕ, _+_, _-_, _*_, _≤_, _<_}
 use native.Mathlib.Omega.{arith}
-use lib.Dec.{leb}
 use lib.ListN.{length, getD, List·getD-eq-default}
-use borrow.Author.Tests.{leb-false, lt-leb, lt-ltb, le-ltb, ne-eqb}
-use Rattle.logic.specs.Pick.{pick}
+use borrow.Author.Tests.{lt-leb, lt-ltb, le-ltb, ne-eqb}
 use Rattle.node.specs.declared.Node.{Node}
 use Rattle.node.specs.Node.{freeNode}
-use Rattle.tables.specs.Tables.{wordOf, recordOf, nodeOf, entryOf, mappingOf, mappingBy}
+use Rattle.tables.specs.Tables.{wordOf, recordOf, nodeOf, entryOf}
 use Rattle.sound.specs.Tree.{linkedOf}
+use Rattle.sound.proofs.TreeLaws.{node-is}
 use Rattle.logic.proofs.Means.{less, split}
 
 -- what a link to node n reads there
@@ -35,26 +33,14 @@ module _ (N : List ℕ) (len : length N ≡ 1024) where
   unfolding nodeOf
   node-out n l = rw (lt-leb (n * 16 + 16) (length N) (omega arith))
 
-  pub word-out : (n k : ℕ) → 64 ≤ n → wordOf N n k ≡ 0
-  unfolding wordOf
-  word-out n k l = List·getD-eq-default N 0 (omega arith)
-
-  node-is : (n : ℕ) → nodeOf N n ≡ recordOf N n
-  unfolding nodeOf recordOf
-  node-is n = by (leb (n * 16 + 16) (length N)) refl
-    where
-      by : (b : Bool) → leb (n * 16 + 16) (length N) ≡ b → pick b (recordOf N n) freeNode ≡ recordOf N n
-      by true t = refl
-      by false t = let l : 64 ≤ n = let q = leb-false (n * 16 + 16) (length N) t in omega arith in simp word-out
-
   pub start-is : (n : ℕ) → nodeOf N n .«parent_offset» ≡ wordOf N n 4
   unfolding recordOf
-  start-is n = ap (λ (r : Node). r .«parent_offset») (node-is n)
+  start-is n = ap (λ (r : Node). r .«parent_offset») (node-is N len n)
 
   pub linked : (n : ℕ) → Linked N n
   unfolding recordOf
   linked n =
-      let e = node-is n in
+      let e = node-is N len n in
       record {
         kind = linked-word N n 0 ∙ sym (ap (λ (r : Node). r .kind) e);
         parent = linked-word N n 1 ∙ sym (ap (λ (r : Node). r .parent) e);
@@ -62,7 +48,7 @@ module _ (N : List ℕ) (len : length N ≡ 1024) where
         right = linked-word N n 3 ∙ sym (ap (λ (r : Node). r .right) e);
       }
 
--- page entries and mappings
+-- page entries
 
 pub entry-is : (P : List ℕ) (n i : ℕ) → i < 64 → entryOf P n i ≡ getD P (n * 64 + i) 0
 unfolding entryOf
@@ -74,7 +60,3 @@ entry-past P n i l = rw (le-ltb i 64 l)
 
 pub entry-out : (P : List ℕ) → length P ≡ 4096 → (n i : ℕ) → 64 ≤ n → entryOf P n i ≡ 0
 entry-out P len n i l = split (less i 64) (λ k. entry-is P n i k ∙ List·getD-eq-default P 0 (omega arith)) (λ out. entry-past P n i (omega arith))
-
-pub mapping-out : (M : List ℕ) → length M ≡ 256 → (i : ℕ) → 64 ≤ i → mappingOf M i ≡ mappingBy 0 0 0 0
-unfolding mappingOf
-mapping-out M len i l = rw (lt-leb (i * 4 + 4) (length M) (omega arith))

@@ -41,9 +41,3 @@ pub blank-turn : (M : List ℕ) (b : ℕ) {r : Bool} → 256 ≤ length M → r 
     ((i : ℕ) → b * 16 ≤ i → i < 64 → mappingOf M i ≡ mappingBy 0 0 0 0) → (i : ℕ) → (b - 1) * 16 ≤ i → i < 64 → mappingOf M i ≡ mappingBy 0 0 0 0
 blank-turn M b n e t h i l m =
     split (less i (b * 16)) (λ k. block-blank M (b - 1) i n (sym e ∙ t) l (omega arith) m) (λ k. h i (omega arith) m)
-
--- a run that changes no more from k on is the same at k and at n
-pub run-rest : {A : Type 0} (P : ℕ → A) (k n : ℕ) → k ≤ n → ((j : ℕ) → k ≤ j → j < n → P (suc j) ≡ P j) → P k ≡ P n
-run-rest P k zero l h = let e : k ≡ 0 = omega arith in rw e
-run-rest P k (suc n) l h =
-    split (less n k) (λ m. let e : k ≡ suc n = omega arith in rw e) (λ m. run-rest P k n (omega arith) (λ j a b. h j a (omega arith)) ∙ sym (h n (omega arith) (omega arith)))

@@ -1,15 +1,12 @@
 // The answer to a line, by a pool that is cut to the state's frames.
-use crate::bytes::at_most;
-use crate::bytes::in_bytes;
-use crate::bytes::in_words;
-use crate::calls;
-use crate::contents;
-use crate::objects;
-use crate::said::Did;
+use crate::cut::at_most;
+use crate::cut::in_words;
 use crate::say;
 use lines::Line;
 use lines::Read;
 use lines::Reader;
+use replies::Did;
+use replies::in_bytes;
 
 // Between lines: how many frames the pool has and how many notices the lent list takes.
 pub struct State {
@@ -40,13 +37,13 @@ fn next(line: Line, state: State) -> State {
     if line.count != 1 {
         return state;
     }
-    if (line.letter == b's') & objects::holds(line.a) {
+    if (line.letter == b's') & replies::holds(line.a) {
         return State {
             frames: line.a,
             room: 4096,
         };
     }
-    if (line.letter == b'a') & objects::lends(line.a) {
+    if (line.letter == b'a') & replies::lends(line.a) {
         return State {
             frames: state.frames,
             room: line.a,
@@ -66,7 +63,7 @@ fn call(
     notices: &mut [u32],
     buf: &mut [u8],
 ) {
-    let did = calls::call(
+    let did = replies::call(
         line,
         nodes,
         pages,
@@ -104,7 +101,7 @@ pub fn line(
     let f = at_most(after.frames, used.len());
     let e = at_most(in_bytes(after.frames), memory.len());
     let w = at_most(in_words(after.room), notices.len());
-    let n = at_most(contents::lent(line), buf.len());
+    let n = at_most(replies::lent(line), buf.len());
     call(
         line,
         nodes,

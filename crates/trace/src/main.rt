@@ -1,12 +1,7 @@
 // Answers a trace on standard input by the proved calls, a line for each line. Its pools have at most 64 frames.
 mod answer;
-mod bytes;
-mod calls;
-mod contents;
+mod cut;
 mod going;
-mod objects;
-mod report;
-mod said;
 mod say;
 
 use going::Going;

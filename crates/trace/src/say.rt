@@ -1,7 +1,6 @@
 // Writes an answer line.
-use crate::report;
-use crate::said::Said;
 use libc::STDOUT_FILENO;
+use replies::Said;
 
 fn number(n: u64) {
     io::print_decimal(STDOUT_FILENO, n);

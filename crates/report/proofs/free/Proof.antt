@@ -1,7 +1,7 @@
 use Prim.Native.Nat.{_≤_, _-_}
 use borrow.Author.Needs.{needs}
-use Rattle.trace.proofs.report.free.Statement.{statement}
-use Rattle.trace.proofs.report.free.Tie as tie
+use Rattle.report.proofs.free.Statement.{statement}
+use Rattle.report.proofs.free.Tie as tie
 
 abbrev Inv-loop : tie.InvT-loop
 Inv-loop used free₀ i₀ free i = (i ≤ 64) × (free ≤ i)

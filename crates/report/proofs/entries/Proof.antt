@@ -1,24 +1,21 @@
 use Prim.Native.Nat.{_≤_, _-_}
 use borrow.Author.Needs.{needs}
-use Rattle.trace.proofs.report.maps.Statement.{statement}
-use Rattle.trace.proofs.report.maps.Tie as tie
+use Rattle.report.proofs.entries.Statement.{statement}
+use Rattle.report.proofs.entries.Tie as tie
 
 abbrev Inv-loop : tie.InvT-loop
-Inv-loop mappings h₀ i₀ h i = i ≤ 64
+Inv-loop h pages node h₀ i₀ h' i = i ≤ 64
 
 abbrev μ-loop : tie.MeasureT-loop
-μ-loop mappings h₀ i₀ h i = 64 - i
+μ-loop h pages node h₀ i₀ h' i = 64 - i
 
-pub maps-spec : {M : Type 1} → statement M
-maps-spec =
+pub entries-spec : {M : Type 1} → statement M
+entries-spec =
     tie.close
     (tie.spec
     Inv-loop
     μ-loop
-    (λ c κs. search needs)
-    (λ c κs. search needs)
     (λ c. search needs)
-    (λ c κs. search needs)
     (λ c κs. search needs)
     (λ c κs. search needs)
     (λ c. search needs)

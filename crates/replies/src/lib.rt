@@ -1,9 +1,17 @@
 // A line's call on the pool: the letter and how many numbers follow it choose it.
-use crate::contents;
-use crate::objects;
-use crate::said::Did;
-use crate::said::plain;
+mod bytes;
+mod contents;
+mod objects;
+mod said;
+
+pub use bytes::in_bytes;
+pub use contents::lent;
 use lines::Line;
+pub use objects::holds;
+pub use objects::lends;
+pub use said::Did;
+pub use said::Said;
+use said::plain;
 
 fn call_one(
     line: Line,

@@ -1,22 +1,22 @@
 use Prim.Native.Nat.{_≤_, _-_}
 use borrow.Author.Needs.{needs}
-use Rattle.trace.proofs.report.entries.Statement.{statement}
-use Rattle.trace.proofs.report.entries.Tie as tie
+use Rattle.report.proofs.tree.Statement.{statement}
+use Rattle.report.proofs.tree.Tie as tie
 
 abbrev Inv-loop : tie.InvT-loop
-Inv-loop h pages node h₀ i₀ h' i = i ≤ 64
+Inv-loop nodes pages h₀ i₀ h i = i ≤ 64
 
 abbrev μ-loop : tie.MeasureT-loop
-μ-loop h pages node h₀ i₀ h' i = 64 - i
+μ-loop nodes pages h₀ i₀ h i = 64 - i
 
-pub entries-spec : {M : Type 1} → statement M
-entries-spec =
+pub tree-spec : {M : Type 1} → statement M
+tree-spec =
     tie.close
     (tie.spec
     Inv-loop
     μ-loop
-    (λ c. search needs)
     (λ c κs. search needs)
+    (λ c. search needs)
     (λ c κs. search needs)
     (λ c. search needs)
     (λ c. search needs)

@@ -3,8 +3,8 @@ use Prim.Native.Nat.{_≤_, _-_}
 use lib.ListN.{length, length-set}
 use native.Mathlib.Omega.{arith}
 use borrow.Author.Needs.{needs}
-use Rattle.trace.proofs.bytes.fill.Statement.{statement}
-use Rattle.trace.proofs.bytes.fill.Tie as tie
+use Rattle.replies.proofs.bytes.fill.Statement.{statement}
+use Rattle.replies.proofs.bytes.fill.Tie as tie
 
 abbrev Inv-loop : tie.InvT-loop
 Inv-loop buf₀ byte step value₀ i₀ buf value i = (i ≤ length buf₀) × (length buf ≡ length buf₀)

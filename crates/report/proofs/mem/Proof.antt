@@ -1,7 +1,7 @@
 use Prim.Native.Nat.{_≤_, _-_}
 use borrow.Author.Needs.{needs}
-use Rattle.trace.proofs.report.mem.Statement.{statement}
-use Rattle.trace.proofs.report.mem.Tie as tie
+use Rattle.report.proofs.mem.Statement.{statement}
+use Rattle.report.proofs.mem.Tie as tie
 
 abbrev Inv-loop : tie.InvT-loop
 Inv-loop used memory h₀ i₀ h i = i ≤ 64

@@ -1,8 +1,8 @@
 use Prim.Native.Nat.{_≤_, _-_}
 use lib.ListN.{length}
 use borrow.Author.Needs.{needs}
-use Rattle.trace.proofs.report.bytes.Statement.{statement}
-use Rattle.trace.proofs.report.bytes.Tie as tie
+use Rattle.report.proofs.bytes.Statement.{statement}
+use Rattle.report.proofs.bytes.Tie as tie
 
 abbrev Inv-loop : tie.InvT-loop
 Inv-loop h frame h₀ i₀ h' i = i ≤ length frame

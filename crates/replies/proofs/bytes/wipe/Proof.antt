@@ -3,8 +3,8 @@ use Prim.Native.Nat.{_≤_, _-_}
 use lib.ListN.{length, length-set}
 use native.Mathlib.Omega.{arith}
 use borrow.Author.Needs.{needs}
-use Rattle.trace.proofs.bytes.wipe.Statement.{statement}
-use Rattle.trace.proofs.bytes.wipe.Tie as tie
+use Rattle.replies.proofs.bytes.wipe.Statement.{statement}
+use Rattle.replies.proofs.bytes.wipe.Tie as tie
 
 abbrev Inv-loop : tie.InvT-loop
 Inv-loop memory₀ i₀ memory i = (i ≤ length memory₀) × (length memory ≡ length memory₀)

@@ -1,7 +1,7 @@
 use Prim.Native.Nat.{_≤_, _-_}
 use borrow.Author.Needs.{needs}
-use Rattle.trace.proofs.report.by_number.Statement.{statement}
-use Rattle.trace.proofs.report.by_number.Tie as tie
+use Rattle.report.proofs.by_number.Statement.{statement}
+use Rattle.report.proofs.by_number.Tie as tie
 
 abbrev Inv-loop : tie.InvT-loop
 Inv-loop h mappings h₀ i₀ h' i = i ≤ 64

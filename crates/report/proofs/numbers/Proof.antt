@@ -1,7 +1,7 @@
 use Prim.Native.Nat.{_≤_, _-_}
 use borrow.Author.Needs.{needs}
-use Rattle.trace.proofs.report.numbers.Statement.{statement}
-use Rattle.trace.proofs.report.numbers.Tie as tie
+use Rattle.report.proofs.numbers.Statement.{statement}
+use Rattle.report.proofs.numbers.Tie as tie
 
 abbrev Inv-loop : tie.InvT-loop
 Inv-loop h mappings object h₀ i₀ h' i = i ≤ 64

@@ -1,16 +1,4 @@
 // The bytes that a trace lends to calls.
-use crate::report;
-ghost use Prim.Native.Nat.{_≤_};
-
-// How much of a slice to lend. No object is 262,145 bytes long, so that more bytes are no different.
-pub fn at_most(n: u64, len: usize) -> usize
-    ensures { λ r. ⌜ r ≤ len ⌝ }
-{
-    if n < len as u64 {
-        return n as usize;
-    }
-    len
-}
 
 // Pages in bytes; no object and no memory has 65, so that more of them are no different.
 pub fn in_bytes(pages: u64) -> u64 {
@@ -18,14 +6,6 @@ pub fn in_bytes(pages: u64) -> u64 {
         return pages * 4096;
     }
     266240
-}
-
-// Notices in words; no list has room for more than 4,096.
-pub fn in_words(notices: u64) -> u64 {
-    if notices < 4096 {
-        return notices * 4;
-    }
-    16384
 }
 
 pub fn wipe(memory: &mut [u8]) {
