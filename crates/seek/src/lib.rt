@@ -166,33 +166,21 @@ pub fn find_page(
             let looked = lookup::make_fresh(pages, used, memory, node, page, false, false, true);
             return Step { looked, count };
         }
-        Sought::Moves(_) => return lookup::lookup(
-            nodes,
-            mappings,
-            pages,
-            used,
-            memory,
-            notices,
-            count,
-            node,
-            page,
-            write,
-            node,
-            64,
-        ),
-        Sought::Stops => return lookup::lookup(
-            nodes,
-            mappings,
-            pages,
-            used,
-            memory,
-            notices,
-            count,
-            node,
-            page,
-            write,
-            node,
-            64,
-        ),
+        Sought::Moves(_) => {}
+        Sought::Stops => {}
     }
+    lookup::lookup(
+        nodes,
+        mappings,
+        pages,
+        used,
+        memory,
+        notices,
+        count,
+        node,
+        page,
+        write,
+        node,
+        64,
+    )
 }
