@@ -1,5 +1,5 @@
-//! Links the static library of the Rattle crate `exports`. `rt` makes it, and proves it first.
-//! GORAMUL_LIB_DIR names a folder that has it ready.
+//! Links the static libraries of the Rattle crates that export the calls. `rt` makes them, and
+//! proves them first. GORAMUL_LIB_DIR names a folder that has them ready.
 
 use std::env;
 use std::fs;
@@ -8,7 +8,7 @@ use std::path::{Path, PathBuf};
 use std::process::{exit, Command, ExitStatus};
 use std::time::SystemTime;
 
-const LIBRARY: &str = "libexports.a";
+const LIBRARIES: [&str; 2] = ["goramul_objects", "goramul_contents"];
 
 fn main() {
     println!("cargo:rerun-if-env-changed=GORAMUL_LIB_DIR");
@@ -16,14 +16,23 @@ fn main() {
         Some(folder) => given(PathBuf::from(folder)),
         None => made(&root()),
     };
-    println!("cargo:rerun-if-changed={}", folder.join(LIBRARY).display());
     println!("cargo:rustc-link-search=native={}", folder.display());
-    println!("cargo:rustc-link-lib=static=exports");
+    for name in LIBRARIES {
+        println!("cargo:rerun-if-changed={}", file(&folder, name).display());
+        println!("cargo:rustc-link-lib=static={name}");
+    }
+}
+
+fn file(folder: &Path, name: &str) -> PathBuf {
+    folder.join(format!("lib{name}.a"))
 }
 
 fn given(folder: PathBuf) -> PathBuf {
-    if !folder.join(LIBRARY).is_file() {
-        fail(&format!("GORAMUL_LIB_DIR: no {LIBRARY} in {folder:?}"));
+    for name in LIBRARIES {
+        let file = file(&folder, name);
+        if !file.is_file() {
+            fail(&format!("GORAMUL_LIB_DIR: there is no {file:?}"));
+        }
     }
     folder
 }
@@ -35,7 +44,7 @@ fn root() -> PathBuf {
     parent.expect("the package is a folder").to_path_buf()
 }
 
-/// The folder of a library no older than its sources.
+/// The folder of libraries no older than their sources.
 fn made(root: &Path) -> PathBuf {
     let sources = sources(root);
     for source in &sources {
@@ -43,13 +52,15 @@ fn made(root: &Path) -> PathBuf {
     }
     let folder = root.join("target").join("staticlib");
     let changed = sources.iter().filter_map(|source| newest(source)).max();
-    if newest(&folder.join(LIBRARY)) < changed {
-        make(root);
+    for name in LIBRARIES {
+        if newest(&file(&folder, name)) < changed {
+            make(root, name);
+        }
     }
     folder
 }
 
-/// What a library is compiled from: crates.txt and every crate's `src`.
+/// What the libraries are compiled from: crates.txt and every crate's `src`.
 fn sources(root: &Path) -> Vec<PathBuf> {
     let crates = fs::read_dir(root.join("crates")).into_iter().flatten();
     let folders = crates.flatten().map(|name| name.path().join("src"));
@@ -66,23 +77,23 @@ fn newest(path: &Path) -> Option<SystemTime> {
     parts.chain(changed).max()
 }
 
-fn make(root: &Path) {
-    eprintln!("rt proves the library before it builds it: 1 to 3 minutes from nothing");
-    match staticlib(root) {
+fn make(root: &Path, name: &str) {
+    eprintln!("rt proves lib{name}.a before it builds it: some minutes from nothing");
+    match staticlib(root, name) {
         Ok(status) if status.success() => {}
-        Ok(status) => fail(&format!("'rt staticlib exports' ended with {status}")),
+        Ok(status) => fail(&format!("'rt staticlib {name}' ended with {status}")),
         Err(why) if why.kind() == io::ErrorKind::NotFound => fail(
-            "the program 'rt' of the Rattle kit isn't on the path; it makes the library that this \
-             package links. Or set GORAMUL_LIB_DIR to a folder that has libexports.a",
+            "the program 'rt' of the Rattle kit isn't on the path; it makes the libraries that \
+             this package links. Or set GORAMUL_LIB_DIR to a folder that has them",
         ),
         Err(why) => fail(&format!("'rt' can't be run: {why}")),
     }
 }
 
 /// Its output goes to standard error, since cargo reads the standard output of this script.
-fn staticlib(root: &Path) -> io::Result<ExitStatus> {
+fn staticlib(root: &Path, name: &str) -> io::Result<ExitStatus> {
     let mut rt = Command::new("rt");
-    rt.args(["staticlib", "exports"]).current_dir(root);
+    rt.args(["staticlib", name]).current_dir(root);
     rt.stdout(io::stderr()).status()
 }
 

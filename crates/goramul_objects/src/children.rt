@@ -1,0 +1,43 @@
+// The export of create_child.
+ghost use mathlib.Core.Path.{_≡_};
+ghost use Rattle.tables.specs.Pool.{poolOf};
+ghost use Rattle.notices.specs.Notices.{toldOf};
+ghost use Rattle.child.specs.Child.{createChild};
+ghost use Rattle.exports.specs.Exports.{notedBy, givenNoted};
+
+#[no_mangle]
+pub extern "C" fn goramul_create_child(
+    nodes: &mut [u32],
+    pages: &mut [u32],
+    used: &[u8],
+    mappings: &[u32],
+    head: &mut [u32],
+    memory: &[u8],
+    notices: &mut [u32],
+    object: u64,
+    offset: u64,
+    len: u64,
+    count: &mut u64,
+    value: &mut u64,
+) -> u32
+    ensures { λ r. ⌜
+        notedBy r (now (value .exit)) (poolOf (now (nodes .exit)) (now (pages .exit)) (now (used .entry)) (now (mappings .entry)) (now (head .exit)) (now (memory .entry))) (toldOf (now (notices .exit)) (now (count .exit)))
+        ≡ givenNoted (createChild 4096 (poolOf (now (nodes .entry)) (now (pages .entry)) (now (used .entry)) (now (mappings .entry)) (now (head .entry)) (now (memory .entry))) (now (notices .entry)) object offset len) ⌝ }
+{
+    let noted = child::create_child(
+        nodes,
+        pages,
+        used,
+        mappings,
+        head,
+        memory,
+        notices,
+        object,
+        offset,
+        len,
+    );
+    let answer = noted.answer;
+    *count = noted.count as u64;
+    *value = answer.value();
+    answer.code()
+}
