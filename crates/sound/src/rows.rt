@@ -141,16 +141,16 @@ fn walk_row(
 }
 
 fn row_test(nodes: &[u32], pages: &[u32], node: u32, frames: usize, marks: &mut [u8]) -> bool
-    requires { ⌜ (length (now pages) ≡ 4096) × (node < 64) × (frames ≤ 1024) × (frames < length (now marks)) ⌝ }
+    requires { ⌜ (length (now nodes) ≡ 1024) × (length (now pages) ≡ 4096) × (node < 64) × (frames ≤ 1024) × (frames < length (now marks)) ⌝ }
     ensures { λ r. ⌜ (r ≡ rowTest (now (nodes .entry)) (now (pages .entry)) frames node) × (now (marks .exit) ≡ markRun (entryOf (now (pages .entry)) node) 64 (now (marks .entry))) ⌝ }
 {
-    let n = tables::node_at(nodes, node);
+    let n = tables::record_at(nodes, node);
     let row = walk_row(pages, node, n.is_hidden(), n.size, frames, marks);
     row.ok & (row.pins <= n.pin_count)
 }
 
 pub fn rows_ok(nodes: &[u32], pages: &[u32], frames: usize, marks: &mut [u8]) -> bool
-    requires { ⌜ (length (now pages) ≡ 4096) × (frames ≤ 1024) × (frames < length (now marks)) ⌝ }
+    requires { ⌜ (length (now nodes) ≡ 1024) × (length (now pages) ≡ 4096) × (frames ≤ 1024) × (frames < length (now marks)) ⌝ }
     ensures { λ r. ⌜ (r ≡ rowsOk (now (nodes .entry)) (now (pages .entry)) frames) × (now (marks .exit) ≡ markRows (now (pages .entry)) 64 (now (marks .entry))) ⌝ }
 {
     let mut ok = true;

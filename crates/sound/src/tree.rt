@@ -2,7 +2,7 @@
 use node::Node;
 ghost use mathlib.Core.Path.{_≡_};
 ghost use mathlib.Core.Bool.{true, _&&_};
-ghost use Prim.Native.Nat.{_≤_};
+ghost use Prim.Native.Nat.{_≤_, _<_};
 ghost use lib.Dec.{eqb};
 ghost use lib.ListN.{length};
 ghost use Rattle.logic.specs.Pick.{pick};
@@ -82,10 +82,10 @@ fn links_ok(nodes: &[u32], node: u32, n: Node) -> bool
 }
 
 fn node_ok(nodes: &[u32], node: u32, next: u32) -> bool
-    requires { ⌜ length (now nodes) ≡ 1024 ⌝ }
+    requires { ⌜ (length (now nodes) ≡ 1024) × (node < 64) ⌝ }
     ensures { λ r. ⌜ r ≡ nodeOk (now (nodes .entry)) next node ⌝ }
 {
-    let n = tables::node_at(nodes, node);
+    let n = tables::record_at(nodes, node);
     if n.kind == Node::FREE {
         return is_blank(n) & (1 <= next);
     }

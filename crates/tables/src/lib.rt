@@ -9,8 +9,8 @@ use logic::Found;
 use node::Node;
 pub use rows::move_row;
 ghost use mathlib.Core.Path.{_≡_};
-ghost use Prim.Native.Nat.{_≤_};
-ghost use lib.ListN.{getD, set};
+ghost use Prim.Native.Nat.{_+_, _*_, _≤_};
+ghost use lib.ListN.{length, getD, set};
 ghost use Rattle.tables.specs.Tables.{wordOf, withWord, withFive, nodeOf, withNode, entryOf, slotAt, withEntry, withState, withoutState, mappingOf, numberOf, freeNodeIn, freeNodeFrom};
 
 // A mapping in the order of appending: its number + 1 (0: none), its object, and the object's pages that it shows.
@@ -48,24 +48,32 @@ fn put_word(nodes: &mut [u32], node: u32, k: u32, v: u32)
     put(nodes, node as usize * 16 + k as usize, v);
 }
 
+// A record that lies whole in the table, read without a test.
+pub fn record_at(nodes: &[u32], node: u32) -> Node
+    requires { ⌜ node * 16 + 16 ≤ length (now nodes) ⌝ }
+    ensures { λ r. ⌜ r ≡ nodeOf (now (nodes .entry)) node ⌝ }
+{
+    let a = node as usize * 16;
+    Node {
+        kind: nodes[a],
+        parent: nodes[a + 1],
+        left: nodes[a + 2],
+        right: nodes[a + 3],
+        parent_offset: nodes[a + 4],
+        parent_limit: nodes[a + 5],
+        size: nodes[a + 6],
+        owner: nodes[a + 7],
+        cache_policy: nodes[a + 8],
+        pin_count: nodes[a + 9],
+    }
+}
+
 // One test for the whole record.
 pub fn node_at(nodes: &[u32], node: u32) -> Node
     ensures { λ r. ⌜ r ≡ nodeOf (now (nodes .entry)) node ⌝ }
 {
-    let a = node as usize * 16;
-    if a + 16 <= nodes.len() {
-        return Node {
-            kind: nodes[a],
-            parent: nodes[a + 1],
-            left: nodes[a + 2],
-            right: nodes[a + 3],
-            parent_offset: nodes[a + 4],
-            parent_limit: nodes[a + 5],
-            size: nodes[a + 6],
-            owner: nodes[a + 7],
-            cache_policy: nodes[a + 8],
-            pin_count: nodes[a + 9],
-        };
+    if node as usize * 16 + 16 <= nodes.len() {
+        return record_at(nodes, node);
     }
     Node::free()
 }

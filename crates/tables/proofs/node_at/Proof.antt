@@ -1,13 +1,8 @@
-use native.Mathlib.Nat.{add-zero}
-use borrow.Author.Tests.{le-leb, lt-leb}
-use Rattle.tables.specs.Tables.{nodeOf, recordOf, wordOf}
+use borrow.Author.Tests.{lt-leb}
+use Rattle.tables.specs.Tables.{nodeOf}
 use borrow.Author.Needs.{needs}
 use Rattle.tables.proofs.node_at.Statement.{statement}
 use Rattle.tables.proofs.node_at.Tie as tie
-
-returns : tie.Need-returns
-unfolding nodeOf recordOf wordOf
-returns c = simp (le-leb _ _ (c .before .before .before .before .before .before .before .before .before .before .if1 .taken), add-zero)
 
 returns-2 : tie.Need-returns-2
 unfolding nodeOf
@@ -15,39 +10,4 @@ returns-2 c = rw (lt-leb _ _ (c .before .if1 .left)) (c .free .ensures)
 
 pub node-at-spec : {M : Type 1} → statement M
 node-at-spec =
-    tie.close
-    (tie.spec
-    (λ c. search needs)
-    (λ c. search needs)
-    (λ c. search needs)
-    (λ c. search needs)
-    (λ c. search needs)
-    (λ c. search needs)
-    (λ c. search needs)
-    (λ c. search needs)
-    (λ c. search needs)
-    (λ c. search needs)
-    (λ c. search needs)
-    (λ c. search needs)
-    (λ c. search needs)
-    (λ c. search needs)
-    (λ c. search needs)
-    (λ c. search needs)
-    (λ c. search needs)
-    (λ c. search needs)
-    (λ c. search needs)
-    (λ c. search needs)
-    (λ c. search needs)
-    (λ c. search needs)
-    (λ c. search needs)
-    (λ c. search needs)
-    (λ c. search needs)
-    (λ c. search needs)
-    (λ c. search needs)
-    (λ c. search needs)
-    (λ c. search needs)
-    (λ c. search needs)
-    (λ c. search needs)
-    returns
-    (λ c κs. search needs)
-    returns-2)
+    tie.close (tie.spec (λ c. search needs) (λ c. search needs) (λ c κs. search needs) (λ c. search needs) (λ c κs. search needs) returns-2)

@@ -5,11 +5,11 @@ use Rattle.sound.proofs.tree.node_ok.Statement.{statement}
 use Rattle.sound.proofs.tree.node_ok.Tie as tie
 
 returns : tie.Need-returns
-returns c = free-node _ _ _ (c .before .before .before .node-at .ensures) (c .before .if1 .taken) (c .is-blank .ensures)
+returns c = free-node _ _ _ (c .before .before .before .record-at .ensures) (c .before .if1 .taken) (c .is-blank .ensures)
 
 returns-2 : tie.Need-returns-2
 unfolding nodeOk
-returns-2 c = rw (← (c .before .before .before .before .node-at .ensures), ← (c .before .numbers-ok .ensures), ← (c .links-ok .ensures))
+returns-2 c = rw (← (c .before .before .before .before .record-at .ensures), ← (c .before .numbers-ok .ensures), ← (c .links-ok .ensures))
 
 pub node-ok-spec : {M : Type 1} → statement M
 node-ok-spec =
