@@ -74,11 +74,8 @@ pub fn write_page(
     match next {
         Next::Done => {
             let why = Against::Nothing;
-            return WritePart {
-                why,
-                rest: it,
-                count,
-            };
+            let rest = it;
+            return WritePart { why, rest, count };
         }
         Next::Block(b, rest) => {
             let step = seek::find_page(
@@ -94,24 +91,18 @@ pub fn write_page(
                 true,
             );
             let looked = step.looked;
+            let count = step.count;
             store(memory, looked, b, bytes, it.begin - offset);
             let why = against_write(looked);
             match why {
                 Against::Why(r) => {
                     let why = Against::Why(r);
-                    return WritePart {
-                        why,
-                        rest: it,
-                        count: step.count,
-                    };
+                    let rest = it;
+                    return WritePart { why, rest, count };
                 }
                 Against::Nothing => {
                     let why = Against::Nothing;
-                    return WritePart {
-                        why,
-                        rest,
-                        count: step.count,
-                    };
+                    return WritePart { why, rest, count };
                 }
             }
         }

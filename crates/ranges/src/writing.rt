@@ -90,21 +90,15 @@ fn write_range(
         match why {
             Against::Why(r) => {
                 let why = Against::Why(r);
-                return WritePart {
-                    why,
-                    rest: it,
-                    count,
-                };
+                let rest = it;
+                return WritePart { why, rest, count };
             }
             Against::Nothing => {}
         }
     }
     let why = Against::Nothing;
-    WritePart {
-        why,
-        rest: it,
-        count,
-    }
+    let rest = it;
+    WritePart { why, rest, count }
 }
 
 fn write_through(
