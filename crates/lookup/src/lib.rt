@@ -351,6 +351,7 @@ pub fn lookup(
         lookingOf (r .looked) (workOf (now (pages .exit)) (now (used .exit)) (now (memory .exit)) (toldOf (now (notices .exit)) (r .count)))
         ≡ look 4096 left (now (nodes .entry)) (now (mappings .entry)) (workOf (now (pages .entry)) (now (used .entry)) (now (memory .entry)) (toldOf (now (notices .entry)) count)) (ask .node) (ask .page) (ask .write) (ask .asker) ⌝ }
 {
+    // The short names keep each call on one line.
     let maps = mappings;
     let page = ask.page;
     if holds(pages, ask.node, page) {
