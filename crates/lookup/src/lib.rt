@@ -33,6 +33,14 @@ pub struct Step {
     pub count: usize,
 }
 
+// A node's page, asked for by a child of the node (or by the node itself), for reading or for writing.
+pub struct Ask {
+    pub node: u32,
+    pub page: u32,
+    pub write: bool,
+    pub asker: u32,
+}
+
 // The parent is asked: there is one, and the page lies inside. (In a sound pool the sum is small.)
 pub fn asks(n: Node, page: u32) -> bool
     ensures { λ r. ⌜ r ≡ asksOf n page ⌝ }
@@ -171,23 +179,22 @@ fn hidden_step(
     count: usize,
     s: PageState,
     n: Node,
-    node: u32,
-    page: u32,
-    write: bool,
-    asker: u32,
+    ask: Ask,
     unmap: bool,
 ) -> Step
     ensures { λ r. ⌜
         lookingOf (r .looked) (workOf (now (pages .exit)) (now (used .exit)) (now (memory .exit)) (toldOf (now (notices .exit)) (r .count)))
-        ≡ hiddenStep 4096 (now (nodes .entry)) (now (mappings .entry)) s n (workOf (now (pages .entry)) (now (used .entry)) (now (memory .entry)) (toldOf (now (notices .entry)) count)) node page write asker unmap ⌝ }
+        ≡ hiddenStep 4096 (now (nodes .entry)) (now (mappings .entry)) s n (workOf (now (pages .entry)) (now (used .entry)) (now (memory .entry)) (toldOf (now (notices .entry)) count)) (ask .node) (ask .page) (ask .write) (ask .asker) unmap ⌝ }
 {
-    let side = n.get_tag_and_other(asker);
+    let side = n.get_tag_and_other(ask.asker);
     let tag = side.tag;
     let other = notices::child(side.other);
     let o = tables::node_at(nodes, other);
+    let node = ask.node;
+    let page = ask.page;
     if o.in_window(page) {
         let told = tell_other(nodes, mappings, notices, count, other, page, unmap);
-        let looked = share_or(pages, used, memory, s, tag, node, page, write, unmap);
+        let looked = share_or(pages, used, memory, s, tag, node, page, ask.write, unmap);
         return Step {
             looked,
             count: told,
@@ -224,24 +231,21 @@ fn settle_page(
     memory: &mut [u8],
     notices: &mut [u32],
     count: usize,
-    node: u32,
-    page: u32,
-    write: bool,
-    asker: u32,
+    ask: Ask,
     unmap: bool,
 ) -> Step
     ensures { λ r. ⌜
         lookingOf (r .looked) (workOf (now (pages .exit)) (now (used .exit)) (now (memory .exit)) (toldOf (now (notices .exit)) (r .count)))
-        ≡ settle 4096 (now (nodes .entry)) (now (mappings .entry)) (workOf (now (pages .entry)) (now (used .entry)) (now (memory .entry)) (toldOf (now (notices .entry)) count)) node page write asker unmap ⌝ }
+        ≡ settle 4096 (now (nodes .entry)) (now (mappings .entry)) (workOf (now (pages .entry)) (now (used .entry)) (now (memory .entry)) (toldOf (now (notices .entry)) count)) (ask .node) (ask .page) (ask .write) (ask .asker) unmap ⌝ }
 {
-    let slot = tables::slot_at(pages, node, page);
+    let slot = tables::slot_at(pages, ask.node, ask.page);
     match slot {
         Slot::Empty => {
             let looked = Looked::Zero;
             return Step { looked, count };
         }
         Slot::Held(s) => {
-            let n = tables::node_at(nodes, node);
+            let n = tables::node_at(nodes, ask.node);
             if n.is_hidden() {
                 return hidden_step(
                     nodes,
@@ -253,14 +257,11 @@ fn settle_page(
                     count,
                     s,
                     n,
-                    node,
-                    page,
-                    write,
-                    asker,
+                    ask,
                     unmap,
                 );
             }
-            let told = tell_leaf(mappings, notices, count, node, page, unmap);
+            let told = tell_leaf(mappings, notices, count, ask.node, ask.page, unmap);
             let looked = Looked::Shared(s.frame);
             return Step {
                 looked,
@@ -285,15 +286,12 @@ fn take_up(
     memory: &mut [u8],
     notices: &mut [u32],
     count: usize,
-    node: u32,
-    page: u32,
-    write: bool,
-    asker: u32,
+    ask: Ask,
     up: Looked,
 ) -> Step
     ensures { λ r. ⌜
         lookingOf (r .looked) (workOf (now (pages .exit)) (now (used .exit)) (now (memory .exit)) (toldOf (now (notices .exit)) (r .count)))
-        ≡ handedBy 4096 (now (nodes .entry)) (now (mappings .entry)) up (workOf (now (pages .entry)) (now (used .entry)) (now (memory .entry)) (toldOf (now (notices .entry)) count)) node page write asker ⌝ }
+        ≡ handedBy 4096 (now (nodes .entry)) (now (mappings .entry)) up (workOf (now (pages .entry)) (now (used .entry)) (now (memory .entry)) (toldOf (now (notices .entry)) count)) (ask .node) (ask .page) (ask .write) (ask .asker) ⌝ }
 {
     match up {
         Looked::Shared(_) => return Step { looked: up, count },
@@ -301,17 +299,17 @@ fn take_up(
         Looked::NoMemory => return Step { looked: up, count },
         Looked::Stopped => return Step { looked: up, count },
         Looked::New(f) => {
-            let n = tables::node_at(nodes, node);
+            let n = tables::node_at(nodes, ask.node);
             if n.is_hidden() {
                 let looked = Looked::New(f);
                 return Step { looked, count };
             }
-            keep(pages, node, page, f);
+            keep(pages, ask.node, ask.page, f);
             let looked = Looked::Shared(f);
             return Step { looked, count };
         }
         Looked::Own(f, unmap) => {
-            keep(pages, node, page, f);
+            keep(pages, ask.node, ask.page, f);
             return settle_page(
                 nodes,
                 mappings,
@@ -320,10 +318,7 @@ fn take_up(
                 memory,
                 notices,
                 count,
-                node,
-                page,
-                write,
-                asker,
+                ask,
                 unmap,
             );
         }
@@ -349,77 +344,41 @@ pub fn lookup(
     memory: &mut [u8],
     notices: &mut [u32],
     count: usize,
-    node: u32,
-    page: u32,
-    write: bool,
-    asker: u32,
+    ask: Ask,
     left: u32,
 ) -> Step
     ensures { λ r. ⌜
         lookingOf (r .looked) (workOf (now (pages .exit)) (now (used .exit)) (now (memory .exit)) (toldOf (now (notices .exit)) (r .count)))
-        ≡ look 4096 left (now (nodes .entry)) (now (mappings .entry)) (workOf (now (pages .entry)) (now (used .entry)) (now (memory .entry)) (toldOf (now (notices .entry)) count)) node page write asker ⌝ }
+        ≡ look 4096 left (now (nodes .entry)) (now (mappings .entry)) (workOf (now (pages .entry)) (now (used .entry)) (now (memory .entry)) (toldOf (now (notices .entry)) count)) (ask .node) (ask .page) (ask .write) (ask .asker) ⌝ }
 {
-    if holds(pages, node, page) {
-        return settle_page(
-            nodes,
-            mappings,
-            pages,
-            used,
-            memory,
-            notices,
-            count,
-            node,
-            page,
-            write,
-            asker,
-            false,
-        );
+    // The short names keep each call on one line.
+    let maps = mappings;
+    let page = ask.page;
+    if holds(pages, ask.node, page) {
+        return settle_page(nodes, maps, pages, used, memory, notices, count, ask, false);
     }
-    let n = tables::node_at(nodes, node);
+    let n = tables::node_at(nodes, ask.node);
     if asks(n, page) {
         if left == 0 {
             let looked = Looked::Stopped;
             return Step { looked, count };
         }
-        let up = lookup(
-            nodes,
-            mappings,
-            pages,
-            used,
-            memory,
-            notices,
-            count,
-            n.parent - 1,
-            n.parent_offset + page,
-            write,
-            node,
-            left - 1,
-        );
-        let looked = up.looked;
-        return take_up(
-            nodes,
-            mappings,
-            pages,
-            used,
-            memory,
-            notices,
-            up.count,
-            node,
-            page,
-            write,
-            asker,
-            looked,
-        );
+        let parent = n.parent - 1;
+        let parent_page = n.parent_offset + page;
+        let up = Ask {
+            node: parent,
+            page: parent_page,
+            write: ask.write,
+            asker: ask.node,
+        };
+        let rest = left - 1;
+        let above = lookup(nodes, maps, pages, used, memory, notices, count, up, rest);
+        let told = above.count;
+        let looked = above.looked;
+        return take_up(nodes, maps, pages, used, memory, notices, told, ask, looked);
     }
-    let looked = make_fresh(
-        pages,
-        used,
-        memory,
-        node,
-        page,
-        n.is_hidden(),
-        n.out_of_range(page),
-        write,
-    );
+    let hidden = n.is_hidden();
+    let out = n.out_of_range(page);
+    let looked = make_fresh(pages, used, memory, ask.node, page, hidden, out, ask.write);
     Step { looked, count }
 }

@@ -1,6 +1,7 @@
 // A walk up the parents that moves nothing, and page lookup that walks first: most pages stay where they are.
 use entry::PageState;
 use entry::Slot;
+use lookup::Ask;
 use lookup::Looked;
 use lookup::Step;
 use node::Node;
@@ -169,6 +170,12 @@ pub fn find_page(
         Sought::Moves(_) => {}
         Sought::Stops => {}
     }
+    let ask = Ask {
+        node,
+        page,
+        write,
+        asker: node,
+    };
     lookup::lookup(
         nodes,
         mappings,
@@ -177,10 +184,7 @@ pub fn find_page(
         memory,
         notices,
         count,
-        node,
-        page,
-        write,
-        node,
+        ask,
         64,
     )
 }

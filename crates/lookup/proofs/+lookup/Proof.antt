@@ -20,7 +20,7 @@ use Rattle.lookup.proofs.+lookup.{statement}
 use Rattle.lookup.proofs.+lookup.Tie.{close}
 
 abbrev μ-lookup : Measures 6 lookup-kinds.ps ℕ
-μ-lookup κs a = a .1 .1 .1 .1 .1 .1 .1 .1 .1 .1 .1 .0
+μ-lookup κs a = a .1 .1 .1 .1 .1 .1 .1 .1 .0
 
 abbrev lookup-at : ℕ → In 6 lookup-kinds.ps
 lookup-at t = and 6 lookup-kinds.ps (is 6 lookup-kinds.ps μ-lookup t) lookup.Pre
@@ -38,11 +38,11 @@ lookup-returns t c = look-own _ _ _ _ _ _ _ _ _ _ _ (c .before .before .before .
 lookup-returns-2 : (t : ℕ) → lookup-lts.Need-returns-2 (called t) (lookup-at t) lookup.Post
 lookup-returns-2 t c = look-stop _ _ _ _ _ _ _ _ _ _ _ (c .before .before .before .before .before .holds .ensures) (c .before .before .before .before .if1 .left) (c .before .before .before .node-at .ensures) (c .before .before .asks .ensures) (c .before .if2 .taken) (c .if3 .taken)
 
-lookup-sub-lookup : (t : ℕ) → lookup-lts.Need-sub-lookup (called t) (lookup-at t) lookup.Post
-lookup-sub-lookup t c = omega (arith, asks-fits (c .before .before .before .before .before .before .before .before .node-at .result) (c .before .before .before .before .before .before .before .before .before .before .before .before .before .before .before .before .before .before .args .page) (c .before .before .before .before .before .before .before .asks .ensures) (c .before .before .before .before .before .before .if2 .taken) .0)
+lookup-sub-parent : (t : ℕ) → lookup-lts.Need-sub-parent (called t) (lookup-at t) lookup.Post
+lookup-sub-parent t c = omega (arith, asks-fits (c .before .before .before .before .node-at .result) (c .before .before .before .before .before .before .before .before .before .before .before .before .before .before .args .ask .page) (c .before .before .before .asks .ensures) (c .before .before .if2 .taken) .0)
 
-lookup-add-lookup : (t : ℕ) → lookup-lts.Need-add-lookup (called t) (lookup-at t) lookup.Post
-lookup-add-lookup t c = omega (arith, asks-fits (c .before .before .before .before .before .before .before .before .before .node-at .result) (c .before .before .before .before .before .before .before .before .before .before .before .before .before .before .before .before .before .before .before .args .page) (c .before .before .before .before .before .before .before .before .asks .ensures) (c .before .before .before .before .before .before .before .if2 .taken) .1)
+lookup-add-parent-page : (t : ℕ) → lookup-lts.Need-add-parent-page (called t) (lookup-at t) lookup.Post
+lookup-add-parent-page t c = omega (arith, asks-fits (c .before .before .before .before .before .node-at .result) (c .before .before .before .before .before .before .before .before .before .before .before .before .before .before .before .args .ask .page) (c .before .before .before .before .asks .ensures) (c .before .before .before .if2 .taken) .1)
 
 lookup-lookup-requires : (t : ℕ) → lookup-lts.Need-lookup-requires (called t) (lookup-at t) lookup.Post
 lookup-lookup-requires t c κs = (omega (arith, c .before .before .before .before .before .before .before .before .before .before .before .before .before .before .before .before .before .before .before .pre .0, pos-of-ne-zero (c .before .before .before .before .before .before .if3 .left)), c .before .before .before .before .before .before .before .before .before .before .before .before .before .before .before .before .before .before .before .pre .1)
@@ -51,7 +51,7 @@ lookup-returns-3 : (t : ℕ) → lookup-lts.Need-returns-3 (called t) (lookup-at
 lookup-returns-3 t c = look-up _ _ _ _ _ _ _ _ _ _ _ (c .before .before .before .before .before .before .before .before .before .before .before .before .before .before .before .before .before .before .before .before .before .before .before .before .before .before .before .before .before .before .before .before .before .holds .ensures) (c .before .before .before .before .before .before .before .before .before .before .before .before .before .before .before .before .before .before .before .before .before .before .before .before .before .before .before .before .before .before .before .before .if1 .left) (c .before .before .before .before .before .before .before .before .before .before .before .before .before .before .before .before .before .before .before .before .before .before .before .before .before .before .before .before .before .before .before .node-at .ensures) (c .before .before .before .before .before .before .before .before .before .before .before .before .before .before .before .before .before .before .before .before .before .before .before .before .before .before .before .before .before .before .asks .ensures) (c .before .before .before .before .before .before .before .before .before .before .before .before .before .before .before .before .before .before .before .before .before .before .before .before .before .before .before .before .before .if2 .taken) (pos-of-ne-zero (c .before .before .before .before .before .before .before .before .before .before .before .before .before .before .before .before .before .before .before .before .before .before .before .before .before .before .before .before .if3 .left)) (c .before .before .before .before .before .before .before .before .before .before .before .before .before .before .before .before .before .before .before .before .before .lookup .ensures) (c .before .before .before .before .before .before .before .before .take-up .ensures)
 
 lookup-returns-4 : (t : ℕ) → lookup-lts.Need-returns-4 (called t) (lookup-at t) lookup.Post
-lookup-returns-4 t c = look-fresh _ _ _ _ _ _ _ _ _ _ _ (c .before .before .before .before .before .before .before .before .before .before .before .before .before .before .before .before .holds .ensures) (c .before .before .before .before .before .before .before .before .before .before .before .before .before .before .before .if1 .left) (c .before .before .before .before .before .before .before .before .before .before .before .before .before .before .node-at .ensures) (c .before .before .before .before .before .before .before .before .before .before .before .before .before .asks .ensures) (c .before .before .before .before .before .before .before .before .before .before .before .before .if2 .left) (c .before .before .before .before .before .before .before .before .is-hidden .ensures) (c .before .before .before .before .before .before .before .out-of-range .ensures) (c .before .before .before .before .before .before .make-fresh .ensures _ _)
+lookup-returns-4 t c = look-fresh _ _ _ _ _ _ _ _ _ _ _ (c .before .before .before .before .before .before .before .before .before .before .before .before .before .before .before .before .holds .ensures) (c .before .before .before .before .before .before .before .before .before .before .before .before .before .before .before .if1 .left) (c .before .before .before .before .before .before .before .before .before .before .before .before .before .before .node-at .ensures) (c .before .before .before .before .before .before .before .before .before .before .before .before .before .asks .ensures) (c .before .before .before .before .before .before .before .before .before .before .before .before .if2 .left) (c .before .before .before .before .before .before .before .before .before .before .before .is-hidden .ensures) (c .before .before .before .before .before .before .before .before .before .before .out-of-range .ensures) (c .before .before .before .before .before .before .make-fresh .ensures _ _)
 
 pub +lookup-spec : {M : Type 1} → statement M
 +lookup-spec = close μ-lookup λ t. lookup-lts.spec (called t)
@@ -68,8 +68,8 @@ pub +lookup-spec : {M : Type 1} → statement M
     (λ c κs. search needs)
     (λ c. search needs)
     (lookup-returns-2 t)
-    (lookup-sub-lookup t)
-    (lookup-add-lookup t)
+    (lookup-sub-parent t)
+    (lookup-add-parent-page t)
     (λ c. search needs)
     (lookup-lookup-requires t)
     (λ c κs. search needs)

@@ -5,7 +5,7 @@ use Rattle.lookup.proofs.hidden_step.Statement.{statement}
 use Rattle.lookup.proofs.hidden_step.Tie as tie
 
 tell-other-requires : tie.Need-tell-other-requires
-tell-other-requires c κs = omega (arith, window-end (c .before .before .before .node-at .result) (c .before .before .before .before .before .before .before .before .before .before .before .before .args .page) (c .before .before .in-window .ensures) (c .before .if1 .taken))
+tell-other-requires c κs = omega (arith, window-end (c .before .before .before .node-at .result) (c .before .before .before .before .before .before .before .before .before .before .before .before .args .ask .page) (c .before .before .in-window .ensures) (c .before .if1 .taken))
 
 returns : tie.Need-returns
 returns c = hidden-shares _ _ _ _ _ _ _ _ _ _ _ _ _ (c .before .before .before .before .before .before .before .before .before .before .before .before .before .before .before .before .before .before .get-tag-and-other .ensures) (c .before .before .before .before .before .before .before .before .before .before .before .before .before .before .before .before .before .child .ensures) (c .before .before .before .before .before .before .before .before .before .before .before .before .before .before .before .before .node-at .ensures) (c .before .before .before .before .before .before .before .before .before .before .before .before .before .before .before .in-window .ensures) (c .before .before .before .before .before .before .before .before .before .before .before .before .before .before .if1 .taken) (c .before .before .before .before .before .before .before .before .before .before .before .before .tell-other .ensures) (c .before .before .before .before .before .before .share-or .ensures _ _)
