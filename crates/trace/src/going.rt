@@ -2,6 +2,8 @@
 use crate::answer;
 use crate::answer::State;
 use lines::Reader;
+ghost use Prim.Native.Nat.{_≤_};
+ghost use lib.ListN.{length};
 
 // A line so far, and the state before it.
 pub struct Going {
@@ -10,7 +12,7 @@ pub struct Going {
     pub more: bool,
 }
 
-fn standing(reader: Reader, state: State, more: bool) -> Going {
+pub fn standing(reader: Reader, state: State, more: bool) -> Going {
     Going {
         reader: reader,
         state: state,
@@ -87,34 +89,19 @@ pub fn take_bytes(
     at
 }
 
-// At the end of the input: the line that has no end, if there is one.
-pub fn take_rest(
-    at: Going,
-    nodes: &mut [u32],
-    pages: &mut [u32],
-    used: &mut [u8],
-    mappings: &mut [u32],
-    head: &mut [u32],
-    memory: &mut [u8],
-    notices: &mut [u32],
-    buf: &mut [u8],
-) -> Going {
-    let reader = at.reader;
-    let state = at.state;
-    if reader.is_begun() {
-        let next = answer::line(
-            reader,
-            state,
-            nodes,
-            pages,
-            used,
-            mappings,
-            head,
-            memory,
-            notices,
-            buf,
-        );
-        return standing(reader, next, false);
+// How many bytes of the input are to be taken: at its end a line that has none is ended.
+pub fn to_take(n: usize, reader: Reader, input: &mut [u8]) -> usize
+    requires { ⌜ n ≤ length (now input) ⌝ }
+    ensures { λ r. ⌜ r ≤ length (now (input .exit)) ⌝ }
+{
+    if n != 0 {
+        return n;
     }
-    standing(reader, state, false)
+    if reader.is_begun() {
+        if 0 < input.len() {
+            input[0] = b'\n';
+            return 1;
+        }
+    }
+    0
 }

@@ -23,11 +23,9 @@ fn take_some(
     let mut input = io::buffer();
     let got = libc::read(STDIN_FILENO, &mut input);
     let n = io::count(got, &input);
-    if n == 0 {
-        return going::take_rest(at, nodes, pages, used, mappings, head, memory, notices, buf);
-    }
-    going::take_bytes(
-        &input[..n],
+    let taken = going::to_take(n, at.reader, &mut input);
+    let after = going::take_bytes(
+        &input[..taken],
         at,
         nodes,
         pages,
@@ -37,7 +35,8 @@ fn take_some(
         memory,
         notices,
         buf,
-    )
+    );
+    going::standing(after.reader, after.state, n != 0)
 }
 
 fn left(turns: u64, more: bool) -> u64
