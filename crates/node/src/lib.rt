@@ -1,7 +1,7 @@
 // A node's record (paged.rs 18 to 99), by value. Windows and size are counted in pages. A link is 0 for none, else a node's number + 1.
 use entry::PageStateTag;
 ghost use mathlib.Core.Path.{_≡_};
-ghost use Prim.Native.Nat.{_+_, _<_, min};
+ghost use Prim.Native.Nat.{_+_, _≤_, _<_, min};
 ghost use Rattle.node.specs.Node.{freeNode, originNode, hiddenOf, leafOf, windowOf, outOf, sideOf, snapshotNode, hiddenNode, belowNode, relinkedNode};
 
 pub struct Node {
@@ -97,20 +97,21 @@ impl Node {
     }
 
     // The parent's page lies in this node's window.
-    pub fn in_window(self, page: u32) -> bool
+    pub fn in_window(self, page: u64) -> bool
         ensures { λ r. ⌜ r ≡ windowOf self page ⌝ }
     {
-        (self.parent_offset <= page) & (page < self.parent_limit)
+        (self.parent_offset as u64 <= page) & (page < self.parent_limit as u64)
     }
 
     // Lookup's out_of_range: a hidden or parentless node goes by its size, another by its window.
-    pub fn out_of_range(self, page: u32) -> bool
+    pub fn out_of_range(self, page: u64) -> bool
+        requires { ⌜ page ≤ 281474976710656 ⌝ }
         ensures { λ r. ⌜ r ≡ outOf self page ⌝ }
     {
         if self.is_hidden() | (self.parent == Node::NONE) {
-            return self.size <= page;
+            return self.size as u64 <= page;
         }
-        self.parent_limit as u64 <= self.parent_offset as u64 + page as u64
+        self.parent_limit as u64 <= self.parent_offset as u64 + page
     }
 
     pub fn get_tag_and_other(self, child: u32) -> Side

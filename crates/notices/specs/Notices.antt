@@ -31,12 +31,12 @@ putNotice t n =
     (toldOf (set (set (set (set (t .list) (t .count * 4) (n .mapping)) (t .count * 4 + 1) (n .first)) (t .count * 4 + 2) (n .pages)) (t .count * 4 + 3) (n .op)) (t .count + 1))
     t
 
--- VmMapping::range_change, vmar.rs 1015: none for an empty overlap
+-- VmMapping::range_change, vmar.rs 1015, for the pages from lo to hi: none for an empty overlap
 unfoldable pub overlapOf : Mapping → ℕ → ℕ → ℕ → Due
-overlapOf m offset len op =
+overlapOf m lo hi op =
     pick (eqb (m .number) 0) Nothing
-    (pick (ltb (max offset (m .first)) (min (m .first + m .pages) (offset + len)))
-    (Tell (noticeBy (m .number - 1) (max offset (m .first) - m .first) (min (m .first + m .pages) (offset + len) - max offset (m .first)) op))
+    (pick (ltb (max lo (m .first)) (min (m .first + m .pages) hi))
+    (Tell (noticeBy (m .number - 1) (max lo (m .first) - m .first) (min (m .first + m .pages) hi - max lo (m .first)) op))
     Nothing)
 
 abbrev pub tellDue : Told → Due → Told
@@ -45,13 +45,13 @@ tellDue t Nothing = t
 
 -- the mapping at place i, if it is the object's
 unfoldable pub tellPlace : List ℕ → Told → ℕ → ℕ → ℕ → ℕ → ℕ → Told
-tellPlace M t i object offset len op =
-    pick (eqb (mappingOf M i .object) object) (tellDue t (overlapOf (mappingOf M i) offset len op)) t
+tellPlace M t i object lo hi op =
+    pick (eqb (mappingOf M i .object) object) (tellDue t (overlapOf (mappingOf M i) lo hi op)) t
 
 -- an object's mappings in list order: after k places
 unfoldable pub tellObject : List ℕ → Told → ℕ → ℕ → ℕ → ℕ → ℕ → Told
-tellObject M t zero object offset len op = t
-tellObject M t (suc k) object offset len op = tellPlace M (tellObject M t k object offset len op) k object offset len op
+tellObject M t zero object lo hi op = t
+tellObject M t (suc k) object lo hi op = tellPlace M (tellObject M t k object lo hi op) k object lo hi op
 
 -- what a node's window has of the parent's pages from lo to hi
 abbrev pub lowIn : Node → ℕ → ℕ
@@ -72,7 +72,7 @@ rangeChange (suc k) N M node lo hi op t =
     let n = nodeOf N node in
     let a = lowIn n lo - n .«parent_offset» in
     let e = highIn n hi - n .«parent_offset» in
-    let told = tellObject M t 64 node a (e - a) op in
+    let told = tellObject M t 64 node a e op in
     let both = rangeChange k N M (childOf (n .right)) a e op (rangeChange k N M (childOf (n .left)) a e op told) in
     let all = pick (hiddenOf n) both told in
     pick (ltb (lowIn n lo) (highIn n hi)) all t

@@ -22,7 +22,14 @@ pub enum Due {
     Nothing,
 }
 
-fn larger(a: u32, b: u32) -> u32
+// Pages of a node from lo to hi, and what is due for them.
+pub struct Span {
+    pub lo: u64,
+    pub hi: u64,
+    pub op: u32,
+}
+
+fn larger(a: u64, b: u64) -> u64
     ensures { λ r. ⌜ r ≡ max a b ⌝ }
 {
     if a < b {
@@ -32,15 +39,6 @@ fn larger(a: u32, b: u32) -> u32
 }
 
 fn smaller(a: u64, b: u64) -> u64
-    ensures { λ r. ⌜ r ≡ min a b ⌝ }
-{
-    if a < b {
-        return a;
-    }
-    b
-}
-
-fn shorter(a: u32, b: u32) -> u32
     ensures { λ r. ⌜ r ≡ min a b ⌝ }
 {
     if a < b {
@@ -64,22 +62,21 @@ fn put_notice(notices: &mut [u32], count: usize, n: Notice) -> usize
     count
 }
 
-// What a mapping shows of len pages from offset on.
-fn overlap(m: Mapping, offset: u32, len: u32, op: u32) -> Due
-    ensures { λ r. ⌜ r ≡ overlapOf m offset len op ⌝ }
+// What a mapping shows of the pages.
+fn overlap(m: Mapping, span: Span) -> Due
+    ensures { λ r. ⌜ r ≡ overlapOf m (span .lo) (span .hi) (span .op) ⌝ }
 {
-    let start = larger(offset, m.first);
-    let end = smaller(m.first as u64 + m.pages as u64, offset as u64 + len as u64);
+    let start = larger(span.lo, m.first as u64);
+    let end = smaller(m.first as u64 + m.pages as u64, span.hi);
     if m.number == 0 {
         return Due::Nothing;
     }
-    if (start as u64) < end {
-        let pages = end - start as u64;
+    if start < end {
         return Due::Notice(Notice {
             mapping: m.number - 1,
-            first: start - m.first,
-            pages: pages as u32,
-            op,
+            first: (start - m.first as u64) as u32,
+            pages: (end - start) as u32,
+            op: span.op,
         });
     }
     Due::Nothing
@@ -92,15 +89,13 @@ fn tell_place(
     count: usize,
     place: u32,
     object: u32,
-    offset: u32,
-    len: u32,
-    op: u32,
+    span: Span,
 ) -> usize
-    ensures { λ r. ⌜ toldOf (now (notices .exit)) r ≡ tellPlace (now (mappings .entry)) (toldOf (now (notices .entry)) count) place object offset len op ⌝ }
+    ensures { λ r. ⌜ toldOf (now (notices .exit)) r ≡ tellPlace (now (mappings .entry)) (toldOf (now (notices .entry)) count) place object (span .lo) (span .hi) (span .op) ⌝ }
 {
     let m = tables::mapping_at(mappings, place);
     if m.object == object {
-        let due = overlap(m, offset, len, op);
+        let due = overlap(m, span);
         match due {
             Due::Notice(n) => return put_notice(notices, count, n),
             Due::Nothing => return count,
@@ -115,17 +110,15 @@ pub fn tell_object(
     notices: &mut [u32],
     count: usize,
     object: u32,
-    offset: u32,
-    len: u32,
-    op: u32,
+    span: Span,
 ) -> usize
-    ensures { λ r. ⌜ toldOf (now (notices .exit)) r ≡ tellObject (now (mappings .entry)) (toldOf (now (notices .entry)) count) 64 object offset len op ⌝ }
+    ensures { λ r. ⌜ toldOf (now (notices .exit)) r ≡ tellObject (now (mappings .entry)) (toldOf (now (notices .entry)) count) 64 object (span .lo) (span .hi) (span .op) ⌝ }
 {
     let places = tables::live_places(mappings);
     let mut count = count;
     let mut i: u32 = 0;
     while i < places {
-        count = tell_place(mappings, notices, count, i, object, offset, len, op);
+        count = tell_place(mappings, notices, count, i, object, span);
         i += 1;
     }
     count
@@ -141,53 +134,35 @@ pub fn child(link: u32) -> u32
     link - 1
 }
 
-// A change of the parent's pages from lo to hi, for everything below the node; `left` levels may still be gone down.
+// A change of the parent's pages, for everything below the node; `left` levels may still be gone down.
 pub fn range_change(
     nodes: &[u32],
     mappings: &[u32],
     notices: &mut [u32],
     count: usize,
     node: u32,
-    lo: u32,
-    hi: u32,
-    op: u32,
+    span: Span,
     left: u32,
 ) -> usize
-    ensures { λ r. ⌜ toldOf (now (notices .exit)) r ≡ rangeChange left (now (nodes .entry)) (now (mappings .entry)) node lo hi op (toldOf (now (notices .entry)) count) ⌝ }
+    ensures { λ r. ⌜ toldOf (now (notices .exit)) r ≡ rangeChange left (now (nodes .entry)) (now (mappings .entry)) node (span .lo) (span .hi) (span .op) (toldOf (now (notices .entry)) count) ⌝ }
 {
     if left == 0 {
         return count;
     }
     let n = tables::node_at(nodes, node);
-    let start = larger(n.parent_offset, lo);
-    let end = shorter(n.parent_limit, hi);
+    let start = larger(n.parent_offset as u64, span.lo);
+    let end = smaller(n.parent_limit as u64, span.hi);
     if start < end {
-        let a = start - n.parent_offset;
-        let e = end - n.parent_offset;
-        let told = tell_object(mappings, notices, count, node, a, e - a, op);
+        let own = Span {
+            lo: start - n.parent_offset as u64,
+            hi: end - n.parent_offset as u64,
+            op: span.op,
+        };
+        let told = tell_object(mappings, notices, count, node, own);
         if n.is_hidden() {
-            let below = range_change(
-                nodes,
-                mappings,
-                notices,
-                told,
-                child(n.left),
-                a,
-                e,
-                op,
-                left - 1,
-            );
-            return range_change(
-                nodes,
-                mappings,
-                notices,
-                below,
-                child(n.right),
-                a,
-                e,
-                op,
-                left - 1,
-            );
+            let rest = left - 1;
+            let below = range_change(nodes, mappings, notices, told, child(n.left), own, rest);
+            return range_change(nodes, mappings, notices, below, child(n.right), own, rest);
         }
         return told;
     }

@@ -116,36 +116,36 @@ pub fn set_node(nodes: &mut [u32], node: u32, n: Node)
 }
 
 // The word of a page's entry. A page past the last is absent, so that no row runs into the next.
-pub fn entry_at(pages: &[u32], node: u32, page: u32) -> u32
+pub fn entry_at(pages: &[u32], node: u32, page: u64) -> u32
     ensures { λ r. ⌜ r ≡ entryOf (now (pages .entry)) node page ⌝ }
 {
-    if page < Node::MAX_PAGES {
+    if page < Node::MAX_PAGES as u64 {
         return at(pages, node as usize * 64 + page as usize);
     }
     0
 }
 
-pub fn slot_at(pages: &[u32], node: u32, page: u32) -> Slot
+pub fn slot_at(pages: &[u32], node: u32, page: u64) -> Slot
     ensures { λ r. ⌜ r ≡ slotAt (now (pages .entry)) node page ⌝ }
 {
     Slot::of(entry_at(pages, node, page))
 }
 
-fn put_entry(pages: &mut [u32], node: u32, page: u32, e: u32)
+fn put_entry(pages: &mut [u32], node: u32, page: u64, e: u32)
     ensures { λ _. ⌜ now (pages .exit) ≡ withEntry (now (pages .entry)) node page e ⌝ }
 {
-    if page < Node::MAX_PAGES {
+    if page < Node::MAX_PAGES as u64 {
         put(pages, node as usize * 64 + page as usize, e);
     }
 }
 
-pub fn set_state(pages: &mut [u32], node: u32, page: u32, s: PageState)
+pub fn set_state(pages: &mut [u32], node: u32, page: u64, s: PageState)
     ensures { λ _. ⌜ now (pages .exit) ≡ withState (now (pages .entry)) node page s ⌝ }
 {
     put_entry(pages, node, page, s.word());
 }
 
-pub fn clear_state(pages: &mut [u32], node: u32, page: u32)
+pub fn clear_state(pages: &mut [u32], node: u32, page: u64)
     ensures { λ _. ⌜ now (pages .exit) ≡ withoutState (now (pages .entry)) node page ⌝ }
 {
     put_entry(pages, node, page, 0);

@@ -1,3 +1,4 @@
+-- `notices::range_change` meets its contract.
 use native.Mathlib.Omega.{arith}
 use native.Mathlib.Nat.{pos-of-ne-zero}
 use Rattle.notices.proofs.Laws.{change-out, change-none, change-leaf, change-both}
@@ -11,14 +12,14 @@ use Rattle.notices.proofs.+range_change.Lts-range_change as range-chang
 use Rattle.node.proofs.Node.is_hidden.Reads as is-hidden-reads
 use Rattle.notices.proofs.child.Reads as child-reads
 use Rattle.notices.proofs.larger.Reads as larger-reads
-use Rattle.notices.proofs.shorter.Reads as shorter-reads
+use Rattle.notices.proofs.smaller.Reads as smaller-reads
 use Rattle.notices.proofs.tell_object.Reads as tell-object-reads
 use Rattle.tables.proofs.node_at.Reads as node-at-reads
 use Rattle.notices.proofs.+range_change.{statement}
 use Rattle.notices.proofs.+range_change.Tie.{close}
 
 abbrev μ-range-change : Measures 3 range-change-kinds.ps ℕ
-μ-range-change κs a = a .1 .1 .1 .1 .1 .1 .1 .1 .0
+μ-range-change κs a = a .1 .1 .1 .1 .1 .1 .0
 
 abbrev range-change-at : ℕ → In 3 range-change-kinds.ps
 range-change-at t =
@@ -34,31 +35,77 @@ range-change-below t =
 
 -- what the callees of `range-change` ask and tell
 abbrev called : ℕ → range-change-lts.Claims
-called t = (node-at-reads.Asked, node-at-reads.Learnt, larger-reads.Asked, larger-reads.Learnt, shorter-reads.Asked, shorter-reads.Learnt, tell-object-reads.Asked, tell-object-reads.Learnt, is-hidden-reads.Asked, is-hidden-reads.Learnt, child-reads.Asked, child-reads.Learnt, range-change-below t, range-change.Post)
+called t = (
+  node-at-reads.Asked,
+  node-at-reads.Learnt,
+  larger-reads.Asked,
+  larger-reads.Learnt,
+  smaller-reads.Asked,
+  smaller-reads.Learnt,
+  tell-object-reads.Asked,
+  tell-object-reads.Learnt,
+  is-hidden-reads.Asked,
+  is-hidden-reads.Learnt,
+  child-reads.Asked,
+  child-reads.Learnt,
+  range-change-below t,
+  range-change.Post,
+)
 
 range-change-returns : (t : ℕ) → range-change-lts.Need-returns (called t) (range-change-at t) range-change.Post
 range-change-returns t c = change-out _ _ _ _ _ _ _ _ (c .if1 .taken)
 
-range-change-sub-a : (t : ℕ) → range-change-lts.Need-sub-a (called t) (range-change-at t) range-change.Post
-range-change-sub-a t c = omega (arith, c .before .before .before .larger .ensures, c .before .before .shorter .ensures)
-
-range-change-sub-e : (t : ℕ) → range-change-lts.Need-sub-e (called t) (range-change-at t) range-change.Post
-range-change-sub-e t c = omega (arith, c .before .before .before .before .larger .ensures, c .before .before .before .shorter .ensures)
-
-range-change-sub-tell-object : (t : ℕ) → range-change-lts.Need-sub-tell-object (called t) (range-change-at t) range-change.Post
-range-change-sub-tell-object t c = omega (arith, c .before .before .before .before .before .larger .ensures, c .before .before .before .before .shorter .ensures)
+range-change-range-change-requires : (t : ℕ) → range-change-lts.Need-range-change-requires (called t) (range-change-at t) range-change.Post
+range-change-range-change-requires t c κs =
+    let the-if1 =
+    c .before .before .before .before .before .before .before .before .before .before .before .before .before .before .before .before .if1 in
+    let the-pre = c .before .before .before .before .before .before .before .before .before .before .before .before .before .before .before .before
+    .before .before .before .before .pre in
+    (omega (arith, the-pre .0, pos-of-ne-zero (the-if1 .left)), the-pre .1)
 
 range-change-range-change-requires-2 : (t : ℕ) → range-change-lts.Need-range-change-requires-2 (called t) (range-change-at t) range-change.Post
-range-change-range-change-requires-2 t c κs = (omega (arith, c .before .before .before .before .before .before .before .before .before .before .before .before .before .before .before .before .before .before .before .before .before .before .before .pre .0, pos-of-ne-zero (c .before .before .before .before .before .before .before .before .before .before .before .before .before .before .before .before .before .before .before .if1 .left)), c .before .before .before .before .before .before .before .before .before .before .before .before .before .before .before .before .before .before .before .before .before .before .before .pre .1)
+range-change-range-change-requires-2 t c κs =
+    let the-if1 = c .before .before .before .before .before .before .before .before .before .before .before .before .before .before .before .before
+    .before .before .before .before .before .if1 in
+    let the-pre = c .before .before .before .before .before .before .before .before .before .before .before .before .before .before .before .before
+    .before .before .before .before .before .before .before .before .before .pre in
+    (omega (arith, the-pre .0, pos-of-ne-zero (the-if1 .left)), the-pre .1)
 
 range-change-returns-2 : (t : ℕ) → range-change-lts.Need-returns-2 (called t) (range-change-at t) range-change.Post
-range-change-returns-2 t c = change-both _ _ _ _ _ _ _ (c .before .before .before .before .before .before .before .before .before .before .before .before .before .before .before .before .before .before .before .before .before .node-at .ensures) _ (pos-of-ne-zero (c .before .before .before .before .before .before .before .before .before .before .before .before .before .before .before .before .before .before .before .before .before .before .if1 .left)) (c .before .before .before .before .before .before .before .before .before .before .before .before .before .before .before .before .before .before .before .before .larger .ensures) (c .before .before .before .before .before .before .before .before .before .before .before .before .before .before .before .before .before .before .before .shorter .ensures) (c .before .before .before .before .before .before .before .before .before .before .before .before .before .before .before .before .before .before .if2 .taken) (c .before .before .before .before .before .before .before .before .before .before .before .before .before .before .tell-object .ensures) (c .before .before .before .before .before .before .before .before .before .before .before .is-hidden .ensures) (c .before .before .before .before .before .before .before .before .before .before .if3 .taken) (c .before .before .before .before .before .before .before .before .child .ensures) (c .before .before .before .before .before .before .before .range-change .ensures) (c .before .before .before .child2 .ensures) (c .before .before .range-change2 .ensures)
+range-change-returns-2 t c =
+    let at-child2 = c .before .before .before in
+    let at-range-change = at-child2 .before .before .before .before in
+    let at-child = at-range-change .before in
+    let at-if3 = at-child .before .before in
+    let at-is-hidden = at-if3 .before in
+    let at-tell-object = at-is-hidden .before .before .before in
+    let at-if2 = at-tell-object .before .before .before .before in
+    let at-smaller = at-if2 .before in
+    let at-larger = at-smaller .before .before in
+    let at-node-at = at-larger .before .before in
+    let at-if1 = at-node-at .before in
+    change-both _ _ _ _ _ _ _ (at-node-at .node-at .ensures) _ (pos-of-ne-zero (at-if1 .if1 .left)) (at-larger .larger .ensures)
+    (at-smaller .smaller .ensures) (at-if2 .if2 .taken) (at-tell-object .tell-object .ensures) (at-is-hidden .is-hidden .ensures) (at-if3 .if3 .taken)
+    (at-child .child .ensures) (at-range-change .range-change .ensures) (at-child2 .child2 .ensures) (c .before .before .range-change2 .ensures)
 
 range-change-returns-3 : (t : ℕ) → range-change-lts.Need-returns-3 (called t) (range-change-at t) range-change.Post
-range-change-returns-3 t c = change-leaf _ _ _ _ _ _ _ (c .before .before .before .before .before .before .before .before .before .before .before .node-at .ensures) _ (pos-of-ne-zero (c .before .before .before .before .before .before .before .before .before .before .before .before .if1 .left)) (c .before .before .before .before .before .before .before .before .before .before .larger .ensures) (c .before .before .before .before .before .before .before .before .before .shorter .ensures) (c .before .before .before .before .before .before .before .before .if2 .taken) (c .before .before .before .before .tell-object .ensures) (c .before .is-hidden .ensures) (c .if3 .left)
+range-change-returns-3 t c =
+    let at-tell-object = c .before .before .before .before in
+    let at-if2 = at-tell-object .before .before .before .before in
+    let at-smaller = at-if2 .before in
+    let at-larger = at-smaller .before .before in
+    let at-node-at = at-larger .before .before in
+    let at-if1 = at-node-at .before in
+    change-leaf _ _ _ _ _ _ _ (at-node-at .node-at .ensures) _ (pos-of-ne-zero (at-if1 .if1 .left)) (at-larger .larger .ensures)
+    (at-smaller .smaller .ensures) (at-if2 .if2 .taken) (at-tell-object .tell-object .ensures) (c .before .is-hidden .ensures) (c .if3 .left)
 
 range-change-returns-4 : (t : ℕ) → range-change-lts.Need-returns-4 (called t) (range-change-at t) range-change.Post
-range-change-returns-4 t c = change-none _ _ _ _ _ _ _ (c .before .before .before .node-at .ensures) _ (pos-of-ne-zero (c .before .before .before .before .if1 .left)) (c .before .before .larger .ensures) (c .before .shorter .ensures) (c .if2 .left)
+range-change-returns-4 t c =
+    let at-larger = c .before .before .before in
+    let at-node-at = at-larger .before .before in
+    let at-if1 = at-node-at .before in
+    change-none _ _ _ _ _ _ _ (at-node-at .node-at .ensures) _ (pos-of-ne-zero (at-if1 .if1 .left)) (at-larger .larger .ensures)
+    (c .before .smaller .ensures) (c .if2 .left)
 
 pub +range-change-spec : {M : Type 1} → statement M
 +range-change-spec = close μ-range-change λ t. range-change-lts.spec (called t)
@@ -66,18 +113,20 @@ pub +range-change-spec : {M : Type 1} → statement M
     range-change.Post
     (range-change-returns t)
     (λ c κs. search needs)
+    (λ c. search needs)
     (λ c κs. search needs)
+    (λ c. search needs)
     (λ c κs. search needs)
-    (range-change-sub-a t)
-    (range-change-sub-e t)
-    (range-change-sub-tell-object t)
-    (λ c κs. search needs)
-    (λ c κs. search needs)
-    (λ c κs. search needs)
+    (λ c. search needs)
+    (λ c. search needs)
+    (λ c. search needs)
     (λ c. search needs)
     (λ c κs. search needs)
     (λ c κs. search needs)
     (λ c. search needs)
+    (λ c κs. search needs)
+    (range-change-range-change-requires t)
+    (λ c κs. search needs)
     (range-change-range-change-requires-2 t)
     (λ c. search needs)
     (range-change-returns-2 t)

@@ -1,3 +1,4 @@
+-- `notices::child` meets its contract.
 use borrow.Author.Tests.{eq-eqb, ne-eqb}
 use Rattle.notices.specs.Notices.{childOf}
 use borrow.Author.Needs.{needs}

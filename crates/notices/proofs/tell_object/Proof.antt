@@ -1,3 +1,4 @@
+-- `notices::tell_object` meets its contract.
 use mathlib.Core.Path.{_≡_, refl, _∙_}
 use Prim.Native.Nat.{_≤_, _-_}
 use native.Mathlib.Omega.{arith}
@@ -9,17 +10,21 @@ use Rattle.notices.proofs.tell_object.Statement.{statement}
 use Rattle.notices.proofs.tell_object.Tie as tie
 
 abbrev Inv-loop : tie.InvT-loop
-Inv-loop mappings notices₀ count object offset len op places count₀ i₀ notices count' i = (i ≤ places) × (length notices ≡ length notices₀) × (toldOf notices count' ≡ tellObject mappings (toldOf notices₀ count₀) i object offset len op)
+Inv-loop mappings notices₀ count object span places count₀ i₀ notices count' i =
+    (i ≤ places) × (length notices ≡ length notices₀)
+    × (toldOf notices count' ≡ tellObject mappings (toldOf notices₀ count₀) i object (span .lo) (span .hi) (span .op))
 
 abbrev μ-loop : tie.MeasureT-loop
-μ-loop mappings notices₀ count object offset len op places count₀ i₀ notices count' i = places - i
+μ-loop mappings notices₀ count object span places count₀ i₀ notices count' i = places - i
 
 loop-holds : tie.Need-loop-holds Inv-loop μ-loop
 unfolding tellObject
 loop-holds c = (search needs, refl, refl)
 
 loop-again : tie.Need-loop-again Inv-loop μ-loop
-loop-again c = (search needs, search needs, object-next _ _ _ _ _ _ _ (c .before .before .before .before .before .loop .inv .2) (c .before .before .tell-place .ensures))
+loop-again c =
+    let the-loop = c .before .before .before .before .before .loop in
+    (search needs, search needs, object-next _ _ _ _ _ _ _ (the-loop .inv .2) (c .before .before .tell-place .ensures))
 
 returns : tie.Need-returns Inv-loop μ-loop
 returns c =

@@ -1,3 +1,4 @@
+-- `node::Node::relinked` meets its contract.
 use borrow.Author.Tests.{eq-eqb, ne-eqb}
 use borrow.Author.Needs.{needs}
 use Rattle.node.proofs.Node.relinked.Statement.{statement}

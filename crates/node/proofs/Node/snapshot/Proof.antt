@@ -1,3 +1,4 @@
+-- `node::Node::snapshot` meets its contract.
 use borrow.Author.Needs.{needs}
 use Rattle.node.proofs.Node.snapshot.Statement.{statement}
 use Rattle.node.proofs.Node.snapshot.Tie as tie
