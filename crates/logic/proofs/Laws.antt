@@ -27,6 +27,17 @@ and-right false b h = let z : _≡_ {A = ℕ} 0 1 = cc in absurd (omega arith)
 pub and-both : {a b : Bool} → a ≡ true → b ≡ true → (a && b) ≡ true
 and-both p q = rw (p, q)
 
+-- a test can't come out both ways
+
+pub true-not : {A : Type 0} {b : Bool} → b ≡ true → b ≡ false → A
+true-not t f = let z : _≡_ {A = ℕ} 0 1 = cc in absurd (omega arith)
+
+-- a choice, by both outcomes of its test
+
+pub by-pick : {A : Type 0} (Q : A → Type 0) (b : Bool) {x y : A} → (b ≡ true → Q x) → (b ≡ false → Q y) → Q (pick b x y)
+by-pick Q true f g = f refl
+by-pick Q false f g = g refl
+
 -- a choice that came out: the test held, and so did the first
 
 pub pick-true : (a b : Bool) → pick a b false ≡ true → (a ≡ true) × (b ≡ true)

@@ -1,2 +1,5 @@
 pub mod Work
+pub mod Mode
+pub mod Level
 pub mod Lookup
+pub mod Descent
