@@ -11,11 +11,11 @@ use Rattle.logic.specs.Pick.{pick}
 use Rattle.logic.proofs.Means.{equal, less, split}
 use Rattle.tables.specs.Pool.{Pool}
 use Rattle.isolation.specs.Private.{Private, put}
-use Rattle.isolation.proofs.Pass.{Place, place}
-use Rattle.isolation.proofs.Pass.Place.{there, elsewhere}
-use Rattle.isolation.proofs.Bytes.{frame-one}
 use Rattle.isolation.proofs.Put.{put-in, put-before, put-after, put-other}
 use Rattle.arrays.specs.Arrays.{writeArray}
+use Rattle.lookups.proofs.Spots.{Spot, spot}
+use Rattle.lookups.proofs.Spots.Spot.{there, elsewhere}
+use Rattle.lookups.proofs.Bytes.{frame-one}
 
 -- only the bytes inside pages matter
 pub private-alike : (L : ℕ) (A B : ℕ → ℕ → ℕ → ℕ) (p : Pool) → ((m i k : ℕ) → k < L → A m i k ≡ B m i k) → Private L A p → Private L B p

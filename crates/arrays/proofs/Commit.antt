@@ -21,13 +21,13 @@ use Rattle.page.specs.Pages.{againstWrite, restBy, committedPage, commitPage}
 use Rattle.ranges.specs.Ranges.{workIn, rangedBy, commitRange, committed, commitThrough}
 use Rattle.isolation.specs.Private.{Private}
 use Rattle.isolation.specs.Kept.{poolWith, Kept}
-use Rattle.isolation.proofs.Pass.{true-not}
 use Rattle.isolation.proofs.Look.{look-goes-on}
 use Rattle.arrays.specs.Outcomes.{Commits}
 use Rattle.arrays.proofs.Each.{Goes, each-keeps}
 use Rattle.arrays.proofs.Spent.{Spent, spent-none, spent-more, spent-out, Ending}
 use Rattle.arrays.proofs.Spent.Ending.{all, out}
 use Rattle.arrays.proofs.Close.{closes}
+use Rattle.logic.proofs.Laws.{true-not}
 
 module _ (L : ℕ) (A : ℕ → ℕ → ℕ → ℕ) (p : Pool) (n first pages : ℕ) (leaf : Leaf (p .nodes) n) (low : first + pages ≤ nodeOf (p .nodes) n .size) where
   -- d pages done, k to come

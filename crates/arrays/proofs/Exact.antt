@@ -15,11 +15,11 @@ use Rattle.pool.specs.declared.answer.Refusal.the-variants.{NoMemory, Stopped}
 use Rattle.commit.specs.Noted.{Said, refusedOf}
 use Rattle.ranges.specs.Ranges.{Ranging, refusedRange, Filled, unfilled}
 use Rattle.isolation.specs.Need.{need}
-use Rattle.isolation.proofs.Pass.{true-not}
 use Rattle.arrays.specs.Arrays.{touched, needs}
 use Rattle.arrays.specs.Outcomes.{Reads, Granted, Short, Commits, Writes}
 use Rattle.arrays.specs.Calls.{ByTests, Called, Page}
 use Rattle.arrays.specs.Calls.Called.{refused, accepted}
+use Rattle.logic.proofs.Laws.{true-not}
 
 done-not : {a : Answer} {v : ℕ} {r : Refusal} → a ≡ Done v → a ≡ Refused r → ⊥
 done-not e f = let z : _≡_ {A = ℕ} 0 1 = cc in omega arith

@@ -11,7 +11,7 @@ use Rattle.logic.specs.Below.{zeroed}
 use Rattle.logic.proofs.Means.{equal, less, split}
 use Rattle.logic.proofs.Laws.{zeroed-length}
 use Rattle.frames.specs.Frames.{pastedAt, blankAt}
-use Rattle.isolation.proofs.Bytes.{pasted-inside, pasted-outside}
+use Rattle.lookups.proofs.Bytes.{pasted-inside, pasted-outside}
 
 -- zeros
 

@@ -28,12 +28,12 @@ use Rattle.page.specs.Each.{partOf}
 use Rattle.page.specs.Pages.{againstWrite, againstRead, restBy, storedBy, wrotePage, writeBy, writePage, committedPage, commitPage, Read, lookRead, readThrough, readBy, readPage}
 use Rattle.ranges.specs.Ranges.{readRange, writeRange, commitRange}
 use Rattle.isolation.specs.Kept.{poolWith}
-use Rattle.isolation.proofs.State.{Ok}
 use Rattle.arrays.proofs.Each.{Goes, each-keeps, each-holds}
 use Rattle.arrays.proofs.Blocks.{cut, some-length, block-inside}
 use Rattle.arrays.proofs.Read.{workFor}
-use Rattle.arrays.proofs.Base.{Base}
 use Rattle.arrays.proofs.Keep.{look-ok}
+use Rattle.lookups.proofs.Ok.{Ok}
+use Rattle.lookups.proofs.Base.{Base}
 
 -- what is stored keeps the memory's length
 pasted-length : (d : List ℕ) (a : ℕ) (s : List ℕ) (b n : ℕ) → length (pastedAt d a s b n) ≡ length d

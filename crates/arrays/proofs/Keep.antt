@@ -18,14 +18,14 @@ use Rattle.lookup.specs.declared.Looked.the-variants.{Shared, Zero, Own, New, N
 use Rattle.lookup.specs.Work.{Work, Looking, lookingOf}
 use Rattle.lookup.specs.Lookup.{asksOf, kept, cleared, freshBy, fresh, handedBy, holdsOf, enter, look}
 use Rattle.sound.specs.Facts.{Hidden, Leaf}
-use Rattle.isolation.proofs.Pass.{true-not}
-use Rattle.isolation.proofs.Frames.{free-idle, frame-taken}
-use Rattle.isolation.proofs.Bytes.{cleared-length}
-use Rattle.isolation.proofs.State.{Ok}
-use Rattle.isolation.proofs.Done.{by-pick, holds-not, holds-some}
-use Rattle.arrays.proofs.Base.{Base, depth, deeper, asked-parent, asked-low, entries-back}
-use Rattle.arrays.proofs.Loose.{Hand, Keeps, Post, keep-ok, keep-still, keep-holds}
+use Rattle.isolation.proofs.Done.{holds-not, holds-some}
 use Rattle.arrays.proofs.Settle.{settle-post}
+use Rattle.logic.proofs.Laws.{true-not, by-pick}
+use Rattle.lookups.proofs.Frames.{free-idle, frame-taken}
+use Rattle.lookups.proofs.Bytes.{cleared-length}
+use Rattle.lookups.proofs.Ok.{Ok}
+use Rattle.lookups.proofs.Base.{Base, depth, deeper, asked-parent, asked-low, entries-back}
+use Rattle.lookups.proofs.Loose.{Hand, Keeps, Post, keep-ok, keep-still, keep-holds}
 
 module _ (N : List ℕ) (B : Base N) (M : List ℕ) (L F : ℕ) where
   module _ (n i : ℕ) where

@@ -19,12 +19,12 @@ use Rattle.commit.specs.Noted.{Said, refusedOf, roomOf}
 use Rattle.commit.specs.Commit.{pageRefusal, committed, commitAt, commitPage}
 use Rattle.isolation.specs.Private.{Private}
 use Rattle.isolation.specs.Kept.{poolWith, workIn, Answers}
-use Rattle.isolation.proofs.Frames.{none-free}
 use Rattle.isolation.proofs.Look.{look-keeps}
 use Rattle.soundness.proofs.Soundness.{facts-sound}
 use Rattle.arrays.specs.Calls.{Called, Frame, ZeroFrame, NoFrame, Page}
 use Rattle.arrays.specs.Calls.Called.{refused, accepted}
 use Rattle.arrays.proofs.Called.{Tests, tests-pick, called}
+use Rattle.lookups.proofs.Frames.{none-free}
 
 pub page-tests : (N M list : List ℕ) (n page : ℕ) (write : Bool) → Tests (pageRefusal N M list n page write) (page < nodeOf N n .size)
 unfolding pageRefusal

@@ -25,14 +25,14 @@ use Rattle.page.specs.Pages.{againstRead, fetchedBy, restBy, Read, readOf, look
 use Rattle.ranges.specs.Ranges.{readRange, filled}
 use Rattle.isolation.specs.Private.{Private}
 use Rattle.isolation.specs.Kept.{poolWith, Kept}
-use Rattle.isolation.proofs.Pass.{true-not}
-use Rattle.isolation.proofs.Bytes.{frame-room, pasted-length}
 use Rattle.isolation.proofs.Look.{look-goes-on}
 use Rattle.bounds.proofs.Quiet.{read-quiet}
 use Rattle.arrays.specs.Outcomes.{Reads}
 use Rattle.arrays.proofs.Each.{Goes, each-keeps}
 use Rattle.arrays.proofs.Blocks.{First, cut, count-more, count-end, some-length, block-inside}
 use Rattle.arrays.proofs.Fill.{Filling, pasted-fills, blank-fills, blank-length}
+use Rattle.logic.proofs.Laws.{true-not}
+use Rattle.lookups.proofs.Bytes.{frame-room, pasted-length}
 
 -- what a read has is what a lookup starts from, with an empty list
 abbrev pub workFor : Read → Work

@@ -20,14 +20,14 @@ use Rattle.lookup.specs.declared.Looked.the-variants.{Own}
 use Rattle.lookup.specs.Work.{Work, lookingOf}
 use Rattle.lookup.specs.Lookup.{withTold, without, partBy, part, other, otherTold, shareOr, hiddenStep, leafTold, settleBy, settle}
 use Rattle.sound.specs.Facts.{Hidden, Holds}
-use Rattle.isolation.proofs.Table.{Wrote, others, wrote-none}
-use Rattle.isolation.proofs.Rows.{taken-out}
-use Rattle.isolation.proofs.Frames.{free-idle, frame-taken, retagged}
-use Rattle.isolation.proofs.Bytes.{copied-size}
-use Rattle.isolation.proofs.State.{Ok}
-use Rattle.isolation.proofs.Done.{by-pick}
-use Rattle.arrays.proofs.Base.{Base, page-low, node-low}
-use Rattle.arrays.proofs.Loose.{Post, told-ok, not-deeper, put-wrote}
+use Rattle.lookups.proofs.Table.{Wrote, others, wrote-none}
+use Rattle.lookups.proofs.Rows.{taken-out}
+use Rattle.lookups.proofs.Frames.{free-idle, frame-taken, retagged}
+use Rattle.lookups.proofs.Bytes.{copied-size}
+use Rattle.lookups.proofs.Ok.{Ok}
+use Rattle.logic.proofs.Laws.{by-pick}
+use Rattle.lookups.proofs.Base.{Base, page-low, node-low}
+use Rattle.lookups.proofs.Loose.{Post, told-ok, not-deeper, put-wrote}
 
 module _ (N : List ℕ) (B : Base N) (M : List ℕ) (L F : ℕ) where
   module _ (n i : ℕ) where

@@ -14,9 +14,9 @@ use Rattle.pool.specs.declared.answer.Refusal.the-variants.{NoMemory}
 use Rattle.isolation.specs.Private.{Private}
 use Rattle.isolation.specs.Need.{need}
 use Rattle.isolation.specs.Kept.{poolWith, Gives, Refuses, Kept}
-use Rattle.isolation.proofs.Frames.{none-free}
 use Rattle.isolation.proofs.Needs.{need-still}
 use Rattle.arrays.specs.Arrays.{needs}
+use Rattle.lookups.proofs.Frames.{none-free}
 
 -- the needs of a longer run are no less
 

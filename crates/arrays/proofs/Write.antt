@@ -25,7 +25,6 @@ use Rattle.page.specs.Pages.{againstWrite, storedBy, restBy, wrotePage, writeBy
 use Rattle.ranges.specs.Ranges.{workIn, rangedBy, writeRange, written, writeThrough}
 use Rattle.isolation.specs.Private.{Private}
 use Rattle.isolation.specs.Kept.{poolWith, Kept}
-use Rattle.isolation.proofs.Pass.{true-not}
 use Rattle.isolation.proofs.Look.{look-goes-on}
 use Rattle.arrays.specs.Arrays.{writeArray, touched}
 use Rattle.arrays.specs.Outcomes.{Writes}
@@ -36,6 +35,7 @@ use Rattle.arrays.proofs.Store.{stored}
 use Rattle.arrays.proofs.Spent.{Spent, spent-none, spent-more, spent-out, Ending}
 use Rattle.arrays.proofs.Spent.Ending.{all, out}
 use Rattle.arrays.proofs.Close.{closes}
+use Rattle.logic.proofs.Laws.{true-not}
 
 module _ (L : ℕ) (A : ℕ → ℕ → ℕ → ℕ) (p : Pool) (n offset : ℕ) (bytes : List ℕ) (leaf : Leaf (p .nodes) n)
     (inside : offset + length bytes ≤ nodeOf (p .nodes) n .size * L) where

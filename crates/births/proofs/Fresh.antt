@@ -24,7 +24,7 @@ use Rattle.soundness.proofs.Sums.{sum-most}
 use Rattle.soundness.proofs.Soundness.{lengths-mean, facts-sound}
 use Rattle.pool.specs.Calls.{freshPool}
 use Rattle.isolation.specs.Private.{Private}
-use Rattle.isolation.proofs.Pass.{held-not}
+use Rattle.lookups.proofs.Spots.{held-not}
 
 abbrev zeros : ℕ → List ℕ
 zeros m = replicate m 0

@@ -14,9 +14,9 @@ use Rattle.sound.specs.Facts.{Leaf, Tree, Holds, pinsOf, Stands, Entries, Mappi
 use Rattle.soundness.proofs.Records.{entry-past}
 use Rattle.soundness.proofs.Slots.{absent}
 use Rattle.soundness.proofs.Sums.{sum-same, sum-most}
-use Rattle.isolation.proofs.Pass.{held-not}
 use Rattle.births.proofs.Cloned.{Old, Which, which, Cloned, c-not-n, leaf-live, live-old, kind-x}
 use Rattle.births.proofs.Cloned.Which.{is-x, is-n, is-c, is-old}
+use Rattle.lookups.proofs.Spots.{held-not}
 
 -- the entries of n are x's, and n has none
 pub record RowMoved (P P′ : List ℕ) (n x : ℕ) : Type 0 where

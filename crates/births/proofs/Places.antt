@@ -16,7 +16,7 @@ use Rattle.tables.specs.declared.Mapping.{Mapping}
 use Rattle.tables.specs.Tables.{mappingOf, mappingBy}
 use Rattle.mappings.specs.Mappings.{withMapping, closedUp}
 use Rattle.sound.proofs.MapLaws.{mapping-out}
-use Rattle.isolation.proofs.Bytes.{copied-inside}
+use Rattle.lookups.proofs.Bytes.{copied-inside}
 
 -- four equal words make equal mappings
 same-words : (M M′ : List ℕ) (j k : ℕ) → length M ≡ 256 → length M′ ≡ 256 → j < 64 → k < 64 → ((w : ℕ) → w < 4 → getD M′ (j * 4 + w) 0 ≡ getD M (k * 4 + w) 0) → mappingOf M′ j ≡ mappingOf M k

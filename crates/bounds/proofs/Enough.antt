@@ -12,7 +12,7 @@ use Rattle.lookup.specs.Work.{Work, Looking}
 use Rattle.lookup.specs.Lookup.{asksOf, enter, look}
 use Rattle.logic.proofs.Means.{equal, split}
 use Rattle.soundness.proofs.Ancestors.{above}
-use Rattle.bounds.proofs.Chain.{Short, sound-short, above-next, ends-by-65}
+use Rattle.lookups.proofs.Chain.{Short, sound-short, above-next, ends-by-65}
 
 -- a node without a parent asks none
 

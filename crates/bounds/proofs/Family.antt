@@ -5,8 +5,8 @@ use Prim.Native.Nat.{ℕ, suc, _+_, _-_, _<_}
 use native.Mathlib.Omega.{arith}
 use Rattle.logic.proofs.Means.{less, split}
 use Rattle.soundness.proofs.Ancestors.{above, above-add}
-use Rattle.bounds.proofs.Chain.{Short, above-next, no-return}
 use Rattle.bounds.proofs.Ranges.{Under}
+use Rattle.lookups.proofs.Chain.{Short, above-next, no-return}
 
 -- n is c, or below it
 pub record Below (N : List ℕ) (c n : ℕ) : Type 0 where

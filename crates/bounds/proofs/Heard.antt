@@ -20,11 +20,11 @@ use Rattle.commit.specs.Noted.{liveOne}
 use Rattle.logic.proofs.Means.{equal, split}
 use Rattle.notices.proofs.Laws.{overlap-free}
 use Rattle.bounds.specs.Telling.{putAll}
-use Rattle.bounds.proofs.Chain.{Short}
 use Rattle.bounds.proofs.Ranges.{named-under, named-link}
 use Rattle.bounds.proofs.Adding.{put-both}
 use Rattle.bounds.proofs.Once.{Once, once-none, once-in, once-both}
 use Rattle.bounds.proofs.Family.{Below, self, below-parent, not-above, apart}
+use Rattle.lookups.proofs.Chain.{Short}
 
 -- a step that sends the same notices whatever the list, at most one for each live mapping, of objects that P holds of
 pub record Heard (M : List ℕ) (P : ℕ → Type 0) (step : Told → Told) : Type 0 where

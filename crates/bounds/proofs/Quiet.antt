@@ -25,8 +25,8 @@ use Rattle.logic.proofs.Means.{equal, split, either}
 use Rattle.soundness.proofs.Ancestors.{above}
 use Rattle.bounds.specs.Reading.{Reads, Quiet, Answers}
 use Rattle.bounds.specs.Reading.Answers.{frame, zeros}
-use Rattle.bounds.proofs.Chain.{Short, sound-short, above-next, ends-by-65}
 use Rattle.bounds.proofs.Enough.{alone}
+use Rattle.lookups.proofs.Chain.{Short, sound-short, above-next, ends-by-65}
 
 module _ {S : Type 0} where
   quiet-pick : {w : Work} {x y : Looking} (b : Bool) → Quiet S w x → Quiet S w y → Quiet S w (pick b x y)

@@ -13,7 +13,7 @@ use Rattle.tables.specs.Tables.{nodeOf}
 use Rattle.notices.specs.Notices.{Told, tellObject, lowIn, highIn, childOf, rangeChange}
 use Rattle.sound.specs.Facts.{Hidden, Names, Tree, Sound}
 use Rattle.soundness.proofs.Ancestors.{above}
-use Rattle.bounds.proofs.Chain.{Short, sound-short, above-next}
+use Rattle.lookups.proofs.Chain.{Short, sound-short, above-next}
 
 -- the node that a link names
 

@@ -13,12 +13,12 @@ use Rattle.lookup.specs.Work.{Work, Looking}
 use Rattle.lookup.specs.Lookup.{withTold, look}
 use Rattle.commit.specs.Noted.{liveCount}
 use Rattle.bounds.specs.Telling.{Tells, Sends, Wrote, Added}
-use Rattle.bounds.proofs.Chain.{sound-short}
 use Rattle.bounds.proofs.Quiet.{leaf-seen}
 use Rattle.bounds.proofs.Adding.{wrote-in, all-wrote, all-added}
 use Rattle.bounds.proofs.Once.{once-few}
 use Rattle.bounds.proofs.Heard.{Heard, object-heard, range-heard}
 use Rattle.bounds.proofs.Walk.{leaf-sent}
+use Rattle.lookups.proofs.Chain.{sound-short}
 
 -- what is sent is written, and all of it where there is room for the most that may be sent
 

@@ -15,12 +15,12 @@ use Rattle.lookup.specs.declared.Looked.the-variants.{Stopped}
 use Rattle.lookup.specs.Work.{workOf, lookingOf}
 use Rattle.lookup.specs.Lookup.{other, look}
 use Rattle.logic.proofs.Means.{equal, split}
-use Rattle.bounds.proofs.Chain.{Short}
 use Rattle.bounds.proofs.Enough.{alone}
 use Rattle.bounds.proofs.Ranges.{Under, named-under, named-link}
 use Rattle.bounds.proofs.Family.{Below, self, below-parent, apart}
 use Rattle.bounds.proofs.Heard.{Heard, heard-in, range-heard}
 use Rattle.bounds.proofs.Sent.{Sent, sent-none, sent-in, Settles, hidden-settles, leaf-settles, enter-sent}
+use Rattle.lookups.proofs.Chain.{Short}
 
 -- the other child
 

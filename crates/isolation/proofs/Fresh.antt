@@ -12,19 +12,21 @@ use Rattle.entry.specs.Entry.{newState}
 use Rattle.tables.specs.Tables.{nodeOf, slotAt}
 use Rattle.frames.specs.Frames.{freeFrameIn, clearedAt}
 use Rattle.lookup.specs.Work.{Work, workOf}
-use Rattle.lookup.specs.Lookup.{kept}
+use Rattle.lookup.specs.Level.{kept}
 use Rattle.sound.specs.Facts.{Leaf, Holds}
 use Rattle.isolation.specs.Walk.{View}
 use Rattle.isolation.specs.Walk.View.{own}
 use Rattle.isolation.specs.Private.{linksOf}
-use Rattle.isolation.proofs.Pass.{Place, place, Views, Aside, views-aside, view-one}
-use Rattle.isolation.proofs.Pass.Place.{there, elsewhere}
-use Rattle.isolation.proofs.Table.{Wrote, others}
-use Rattle.isolation.proofs.Rows.{put-in}
-use Rattle.isolation.proofs.Frames.{Idle, free-idle, not-idle, frame-taken}
-use Rattle.isolation.proofs.Bytes.{cleared-length, cleared-same, cleared-other}
+use Rattle.isolation.proofs.Pass.{Views, Aside, views-aside, view-one}
 use Rattle.isolation.proofs.Wood.{Ground, asked, leaf-kind}
-use Rattle.isolation.proofs.State.{Alike, Ok, Step, kept-wrote}
+use Rattle.isolation.proofs.State.{Alike, Step, kept-wrote}
+use Rattle.lookups.proofs.Spots.{Spot, spot}
+use Rattle.lookups.proofs.Spots.Spot.{there, elsewhere}
+use Rattle.lookups.proofs.Table.{Wrote, others}
+use Rattle.lookups.proofs.Rows.{put-in}
+use Rattle.lookups.proofs.Frames.{Idle, free-idle, not-idle, frame-taken}
+use Rattle.lookups.proofs.Bytes.{cleared-length, cleared-same, cleared-other}
+use Rattle.lookups.proofs.Ok.{Ok}
 
 -- a cleared frame goes to an empty page that nothing reaches
 module _ (N : List ℕ) (G : Ground N) (L F : ℕ) (l p : ℕ) (leaf : Leaf N l) (size : p < nodeOf N l .size) (s : Work) (o : Ok N L F s) (bare : slotAt (s .pages) l p ≡ Empty)
@@ -52,7 +54,7 @@ module _ (N : List ℕ) (G : Ground N) (L F : ℕ) (l p : ℕ) (leaf : Leaf N l)
         zeros = λ k h. refl;
       }
 
-  views-by : (n q : ℕ) (x : Found) → View (linksOf N) (slotAt (s .pages)) n q x → Place n q l p → Views (linksOf N) (Alike L (s .memory) (new .memory)) (slotAt (kept new l p g .pages)) n q x
+  views-by : (n q : ℕ) (x : Found) → View (linksOf N) (slotAt (s .pages)) n q x → Spot n q l p → Views (linksOf N) (Alike L (s .memory) (new .memory)) (slotAt (kept new l p g .pages)) n q x
   views-by n q x d (there i j) =
       let e : x ≡ Nothing = view-one (subst₂ (λ (a b : ℕ). View (linksOf N) (slotAt (s .pages)) a b x) i j d) view in
       (At g, own {s = newState g} (rw (i, j) (wrote .same)) refl, rw e (cleared-same L F (s .memory) (o .memory) g in-g))
@@ -69,5 +71,5 @@ module _ (N : List ℕ) (G : Ground N) (L F : ℕ) (l p : ℕ) (leaf : Leaf N l)
           memory = cleared-length L F (s .memory) (o .memory) g in-g;
           entries = put-in (frame-taken (o .entries) idle) bare size wrote;
         };
-        views = λ n q x f d. views-by n q x d (place n q l p);
+        views = λ n q x f d. views-by n q x d (spot n q l p);
       }

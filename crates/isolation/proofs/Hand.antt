@@ -1,12 +1,13 @@
 -- A hidden node that has the page serves its child: the entry moves down, or is copied and split, or is shared. Assumes nothing.
-use mathlib.Core.Path.{_≡_, refl, sym, ap, _∙_}
-use mathlib.Core.Bool.{Bool, true, false, _&&_, not}
+use mathlib.Core.Path.{_≡_, refl, sym, _∙_}
+use mathlib.Core.Bool.{Bool, true, false, _&&_}
 use mathlib.Core.List.{List}
 use Prim.Native.Nat.{ℕ, _+_}
 use native.Mathlib.Omega.{arith}
+use borrow.Author.Tests.{eq-eqb}
 use Rattle.logic.specs.declared.Found.{Found}
 use Rattle.logic.specs.declared.Found.the-variants.{At, Nothing}
-use Rattle.logic.proofs.Laws.{and-left}
+use Rattle.logic.proofs.Laws.{and-left, true-not, by-pick}
 use Rattle.entry.specs.declared.PageState.{PageState}
 use Rattle.entry.specs.declared.Slot.{Slot}
 use Rattle.entry.specs.declared.Slot.the-variants.{Empty, Held}
@@ -14,22 +15,24 @@ use Rattle.entry.specs.Entry.{splitOf}
 use Rattle.tables.specs.Tables.{nodeOf, slotAt}
 use Rattle.frames.specs.Frames.{freeFrameIn}
 use Rattle.notices.specs.Notices.{Told}
-use Rattle.lookup.specs.declared.Looked.the-variants.{Own}
-use Rattle.lookup.specs.Work.{Work, lookingOf}
-use Rattle.lookup.specs.Lookup.{withTold, without, part, partBy, other, otherTold, shareOr, hiddenStep}
+use Rattle.lookup.specs.declared.Looked.the-variants.{Shared, Own, NoMemory}
+use Rattle.lookup.specs.Work.{Work, Looking, lookingOf}
+use Rattle.lookup.specs.Mode.{today, placeOf}
+use Rattle.lookup.specs.Level.{withTold, without, copyAt, childTold}
+use Rattle.lookup.proofs.Ways.{Serves}
+use Rattle.lookup.proofs.Ways.Serves.{keeps, goes, moves, copies, lacks, lends}
 use Rattle.sound.specs.Facts.{Holds}
 use Rattle.isolation.specs.Walk.{Near, Over}
 use Rattle.isolation.specs.Walk.Near.{none, here, up}
 use Rattle.isolation.specs.Walk.Over.{parent}
 use Rattle.isolation.specs.Private.{linksOf}
-use Rattle.isolation.specs.Need.{oneIf, orFresh}
-use Rattle.isolation.proofs.Pass.{held-one, held-not, true-not}
-use Rattle.isolation.proofs.Frames.{one-less, none-free}
-use Rattle.isolation.proofs.Sides.{side-split}
 use Rattle.isolation.proofs.Wood.{Asked, Ground, asked}
-use Rattle.isolation.proofs.State.{Alike, Ok, step-same, mid-step}
-use Rattle.isolation.proofs.Done.{by-pick, Post}
+use Rattle.isolation.proofs.State.{Alike, step-same, mid-step}
+use Rattle.isolation.proofs.Done.{Post}
 use Rattle.isolation.proofs.Move.{moved, halved, parted}
+use Rattle.lookups.proofs.Spots.{held-one, held-not}
+use Rattle.lookups.proofs.Sides.{side-split}
+use Rattle.lookups.proofs.Ok.{Ok}
 
 module _ (N : List ℕ) (G : Ground N) (L F : ℕ) (c r : ℕ) (a₀ : linksOf N .asks c r ≡ true) where
   abbrev h : ℕ
@@ -43,7 +46,7 @@ module _ (N : List ℕ) (G : Ground N) (L F : ℕ) (c r : ℕ) (a₀ : linksOf N
 
   -- what reaches (c, r) is the entry above it
   over-by : {E : ℕ → ℕ → Slot} {x : Found} (e : PageState) → E h q ≡ Held e → Near (linksOf N) E c r x → (e .tag ≡ linksOf N .side c → ⊥) × (x ≡ At (e .frame))
-  over-by e y (none a z) = absurd (true-not a₀ a)
+  over-by e y (none a z) = true-not a₀ a
   over-by e y (here {s = d} a k t b) = let i : d ≡ e = held-one (sym k ∙ y) in (rw i at t, rw i at b)
   over-by e y (up a k d) = absurd (held-not y k)
 
@@ -51,17 +54,14 @@ module _ (N : List ℕ) (G : Ground N) (L F : ℕ) (c r : ℕ) (a₀ : linksOf N
   not-over out i j = out (parent a₀ i j)
 
   module _ (M : List ℕ) (w : Bool) (x : Found) (s : Work) (o : Ok N L F s) (bare : slotAt (s .pages) c r ≡ Empty) (near : Near (linksOf N) (slotAt (s .pages)) c r x) (e : PageState) (over : Holds (s .pages) h q e) where
-    abbrev takes : Found
-    takes = At (oneIf (linksOf N .both c r && not (splitOf (e .tag))))
-
     tag-not : e .tag ≡ linksOf N .side c → ⊥
     tag-not = over-by e over near .0
 
     source : (Y : List ℕ) (y : Found) → Alike L (s .memory) Y (At (e .frame)) y → Alike L (s .memory) Y x y
     source Y y k = rw (over-by e over near .1) k
 
-    move-post : (t : Told) (u : Bool) → (linksOf N .both c r ≡ true → splitOf (e .tag) ≡ true) → takes ≡ At 0 → Post N L F s c r x w takes (lookingOf (Own (e .frame) u) (without (withTold s t) h q))
-    move-post t u g z =
+    move-post : (t : Told) (u : Bool) → (linksOf N .both c r ≡ true → splitOf (e .tag) ≡ true) → Post N L F s c r x w (lookingOf (Own (e .frame) u) (without (withTold s t) h q))
+    move-post t u g =
         let m = moved N G L F c r a₀ s t e o over tag-not g in
         record {
           still = λ a b out. m .rest a b (not-over out);
@@ -70,24 +70,12 @@ module _ (N : List ℕ) (G : Ground N) (L F : ℕ) (c r : ℕ) (a₀ : linksOf N
             pages = m .pages;
             bytes = source (s .memory) (At (e .frame)) (m .same);
             frame = let l = m .loose .frame in let v = m .used in omega arith;
-            taken = λ k. record { count = 0; need = z; frames = omega arith };
             untaken = λ k. refl;
           };
         }
 
-    part-post : (y : Found) (t : Told) → freeFrameIn (s .used) ≡ y → w ≡ true → takes ≡ At 1 → Post N L F s c r x w takes (partBy L y (withTold s t) h q e (linksOf N .side c))
-    unfolding partBy
-    part-post Nothing t f k z =
-        record {
-          still = λ a b out. refl;
-          done = record {
-            writing = k;
-            step = step-same N G L F s t o;
-            no-frame = f;
-            short = let n = none-free (s .used) f in let v = ap orFresh z in omega arith;
-          };
-        }
-    part-post (At g) t f k z =
+    copy-post : (t : Told) (g : ℕ) → freeFrameIn (s .used) ≡ At g → w ≡ true → Post N L F s c r x w (lookingOf (Own g true) (copyAt (today L N M) (placeOf h q c) e g (withTold s t)))
+    copy-post t g f k =
         let m = parted N G L F c r a₀ s t e o over tag-not g f in
         record {
           still = λ a b out. m .rest a b (not-over out);
@@ -96,38 +84,35 @@ module _ (N : List ℕ) (G : Ground N) (L F : ℕ) (c r : ℕ) (a₀ : linksOf N
             pages = m .pages;
             bytes = source (halved N G L F c r a₀ s t e o over tag-not g f .memory) (At g) (m .same);
             frame = let l = m .loose .frame in let v = m .used in omega arith;
-            taken = λ j. record { count = 1; need = z; frames = one-less (s .used) g f };
-            untaken = λ j. absurd (true-not k j);
+            untaken = λ j. true-not k j;
           };
         }
 
-    share-post : (t : Told) (u : Bool) → linksOf N .both c r ≡ true → Post N L F s c r x w takes (shareOr L e (linksOf N .side c) (withTold s t) h q w u)
-    unfolding shareOr part
-    share-post t u b =
-        by-pick (Post N L F s c r x w takes) (splitOf (e .tag))
-        (λ p. move-post t u (λ d. p) (rw (b, p)))
-        (λ p.
-        by-pick (Post N L F s c r x w takes) (w && splitOf (linksOf N .side c))
-        (λ k. part-post (freeFrameIn (s .used)) t refl (and-left w (splitOf (linksOf N .side c)) k) (rw (b, p)))
-        (λ k.
+    deny-post : (t : Told) → freeFrameIn (s .used) ≡ Nothing → w ≡ true → Post N L F s c r x w (lookingOf NoMemory (withTold s t))
+    deny-post t f k = record { still = λ a b out. refl; done = record { writing = k; step = step-same N G L F s t o; no-frame = f } }
+
+    lend-post : (t : Told) → w ≡ false → Post N L F s c r x w (lookingOf (Shared (e .frame)) (withTold s t))
+    lend-post t k =
         record {
           still = λ a b out. refl;
           done = record {
-            reading = reads w (side-split (facts .sided)) k;
+            reading = k;
             step = step-same N G L F s t o;
             bytes = source (s .memory) (At (e .frame)) (λ k l. refl);
             frame = let l = o .entries .frames h q e over in let v = o .used in omega arith;
             untaken = refl;
           };
-        }))
-      where
-        reads : (w : Bool) {d : Bool} → d ≡ true → (w && d) ≡ false → w ≡ false
-        reads true p k = absurd (true-not p k)
-        reads false p k = refl
+        }
 
-    pub hidden-post : (u : Bool) → Post N L F s c r x w takes (hiddenStep L N M e (nodeOf N h) s h q w c u)
-    unfolding hiddenStep
-    hidden-post u =
-        by-pick (Post N L F s c r x w takes) (linksOf N .both c r)
-        (λ b. share-post (otherTold N M (other (nodeOf N h) c) q u (s .told)) u b)
-        (λ b. move-post (s .told) u (λ d. absurd (true-not d b)) (rw b))
+    reads : (w : Bool) {d : Bool} → d ≡ true → (w && d) ≡ false → w ≡ false
+    reads true p k = true-not p k
+    reads false p k = refl
+
+    pub serves-post : {u : Bool} {z : Looking} → Serves (today L N M) w (placeOf h q c) e u s z → Post N L F s c r x w z
+    unfolding childTold
+    serves-post (keeps n z) = true-not (eq-eqb (nodeOf N h .kind) 3 (facts .hidden)) n
+    serves-post (goes n b z) = rw z (move-post (s .told) _ (λ d. true-not d b))
+    serves-post (moves n b t z) = rw z (move-post _ _ (λ d. t))
+    serves-post (copies n b t k g f z) = rw z (copy-post _ g f k)
+    serves-post (lacks n b t k f z) = rw z (deny-post _ f k)
+    serves-post (lends n b t k z) = rw z (lend-post _ (reads w (side-split (facts .sided)) k))

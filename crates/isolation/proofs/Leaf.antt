@@ -2,7 +2,7 @@
 use mathlib.Core.Path.{_≡_, refl, sym, _∙_, subst}
 use mathlib.Core.Bool.{Bool, true, false}
 use mathlib.Core.List.{List}
-use Prim.Native.Nat.{ℕ, zero, suc, _+_, _≤_, _<_}
+use Prim.Native.Nat.{ℕ, _+_, _<_}
 use native.Mathlib.Omega.{arith}
 use borrow.Author.Tests.{ne-eqb}
 use Rattle.logic.specs.declared.Found.{Found}
@@ -12,26 +12,35 @@ use Rattle.entry.specs.declared.Slot.the-variants.{Empty, Held}
 use Rattle.entry.specs.Entry.{newState}
 use Rattle.node.specs.Node.{hiddenOf, outOf}
 use Rattle.tables.specs.Tables.{nodeOf, slotAt}
-use Rattle.frames.specs.Frames.{freeCount, freeFrameIn}
+use Rattle.frames.specs.Frames.{freeFrameIn}
 use Rattle.lookup.specs.declared.Looked.{Looked}
 use Rattle.lookup.specs.declared.Looked.the-variants.{Shared, Zero, Own, New, NoMemory, Stopped}
 use Rattle.lookup.specs.Work.{Work, Looking, lookingOf}
-use Rattle.lookup.specs.Lookup.{asksOf, withTold, kept, cleared, fresh, freshBy, leafTold, settleBy, settle, handedBy, holdsOf, enter, look}
+use Rattle.lookup.specs.declared.End.{End}
+use Rattle.lookup.specs.declared.End.the-variants.{Tired}
+use Rattle.lookup.specs.Mode.{today, placeOf, up}
+use Rattle.lookup.specs.Level.{withTold, kept, cleared, leafTold}
+use Rattle.lookup.proofs.Join.{Final}
+use Rattle.lookup.proofs.Ways.{Serves}
+use Rattle.lookup.proofs.Ways.Serves.{keeps, goes, moves, copies, lacks, lends}
+use Rattle.lookup.proofs.Looks.{Looks, Alone, Asked}
+use Rattle.lookup.proofs.Looks.Looks.{has, zeros, short, stops, clears, fills, quits, rests, falls, lands, takes}
 use Rattle.sound.specs.Facts.{Leaf, Holds}
 use Rattle.isolation.specs.Walk.{Near, View, Over}
-use Rattle.isolation.specs.Walk.Near.{none, here, up}
+use Rattle.isolation.specs.Walk.Near.{none, here, up as higher}
 use Rattle.isolation.specs.Walk.View.{own, above}
 use Rattle.isolation.specs.Private.{linksOf}
-use Rattle.isolation.specs.Need.{needAbove, orFresh, unlessHeld}
-use Rattle.isolation.proofs.Pass.{held-one, held-not, true-not}
-use Rattle.isolation.proofs.Table.{Wrote, others}
-use Rattle.isolation.proofs.Frames.{free-idle, one-less, none-free}
-use Rattle.isolation.proofs.Bytes.{cleared-same}
-use Rattle.isolation.proofs.Wood.{Ground, asks-same, height, lower, leaf-kind}
-use Rattle.isolation.proofs.State.{Alike, Ok, Step, step-same, step-then, kept-wrote}
-use Rattle.isolation.proofs.Done.{by-pick, holds-not, holds-some, Fresh, Post, Served}
+use Rattle.isolation.proofs.Wood.{Ground, leaf-kind}
+use Rattle.isolation.proofs.State.{Alike, Step, step-same, step-then, kept-wrote}
+use Rattle.isolation.proofs.Done.{Fresh, Post, Served}
 use Rattle.isolation.proofs.Fresh.{fresh-step}
-use Rattle.isolation.proofs.Ask.{need-none, need-some, ask}
+use Rattle.isolation.proofs.Ask.{asks-same, ask}
+use Rattle.lookups.proofs.Spots.{held-one, held-not}
+use Rattle.logic.proofs.Laws.{true-not, by-pick}
+use Rattle.lookups.proofs.Table.{Wrote, others}
+use Rattle.lookups.proofs.Frames.{free-idle}
+use Rattle.lookups.proofs.Bytes.{cleared-same}
+use Rattle.lookups.proofs.Ok.{Ok}
 
 module _ (N : List ℕ) (G : Ground N) (M : List ℕ) (L F : ℕ) (l p : ℕ) (leaf : Leaf N l) (size : p < nodeOf N l .size) (s : Work) (x : Found) (w : Bool) (asker : ℕ) (o : Ok N L F s)
     (view : View (linksOf N) (slotAt (s .pages)) l p x) where
@@ -47,23 +56,26 @@ module _ (N : List ℕ) (G : Ground N) (M : List ℕ) (L F : ℕ) (l p : ℕ) (l
   above-by y (above h d) = d
 
   -- the leaf has the page, of its own or as it was handed down
-  settle-served : (q : Work) (e : PageState) (u : Bool) (n : ℕ) → Step N L F s q → Holds (q .pages) l p e → Alike L (s .memory) (q .memory) x (At (e .frame)) → e .frame < F
-      → ((a b : ℕ) → (a ≡ l → b ≡ p → ⊥) → (Over (linksOf N) l p a b → ⊥) → slotAt (q .pages) a b ≡ slotAt (s .pages) a b)
-      → (w ≡ true → freeCount (s .used) ≡ freeCount (q .used) + n) → (w ≡ false → q .used ≡ s .used)
-      → Served N L F s l p x w n (settle L N M q l p w asker u)
-  unfolding settle settleBy
-  settle-served q e u n t h b f only c d =
-      rw (h, not-hidden)
+  serves-served : (q : Work) (e : PageState) {u : Bool} {z : Looking} → Step N L F s q → Holds (q .pages) l p e → Alike L (s .memory) (q .memory) x (At (e .frame)) → e .frame < F
+      → ((a b : ℕ) → (a ≡ l → b ≡ p → ⊥) → (Over (linksOf N) l p a b → ⊥) → slotAt (q .pages) a b ≡ slotAt (s .pages) a b) → (w ≡ false → q .used ≡ s .used)
+      → Serves (today L N M) w (placeOf l p asker) e u q z → Served N L F s l p x w z
+  serves-served q e {u} t h b f only d (keeps n z) =
+      rw z
       (record {
         step = step-then N G L F s q (withTold q (leafTold M l p u (q .told))) t (step-same N G L F q (leafTold M l p u (q .told)) (t .ok));
         only = only;
-        says = record { bytes = b; frame = f; own = λ k. (e, h, refl); taken = c; untaken = d };
+        says = record { bytes = b; frame = f; own = λ k. (e, h, refl); untaken = d };
       })
+  serves-served q e t h b f only d (goes n k z) = true-not n not-hidden
+  serves-served q e t h b f only d (moves n k i z) = true-not n not-hidden
+  serves-served q e t h b f only d (copies n k i j g y z) = true-not n not-hidden
+  serves-served q e t h b f only d (lacks n k i j y z) = true-not n not-hidden
+  serves-served q e t h b f only d (lends n k i j z) = true-not n not-hidden
 
   -- a cleared frame, which the leaf keeps
-  fresh-served : (n : Found) (g : ℕ) (q : Work) → slotAt (s .pages) l p ≡ Empty → Fresh L s x w n g q → Served N L F s l p x w (orFresh n) (lookingOf (Shared g) (kept q l p g))
-  fresh-served n g q bare d =
-      subst (λ (v : Work). Served N L F s l p x w (orFresh n) (lookingOf (Shared g) (kept v l p g))) (sym (d .result))
+  fresh-served : (g : ℕ) (q : Work) → slotAt (s .pages) l p ≡ Empty → Fresh L s x w g q → Served N L F s l p x w (lookingOf (Shared g) (kept q l p g))
+  fresh-served g q bare d =
+      subst (λ (v : Work). Served N L F s l p x w (lookingOf (Shared g) (kept v l p g))) (sym (d .result))
       (record {
         step = fresh-step N G L F l p leaf size s o bare zero-view g (d .free);
         only = λ a b ne out. others at-leaf a b ne;
@@ -71,8 +83,7 @@ module _ (N : List ℕ) (G : Ground N) (M : List ℕ) (L F : ℕ) (l p : ℕ) (l
           bytes = rw (d .nothing) (cleared-same L F (s .memory) (o .memory) g in-F);
           frame = in-F;
           own = λ k. (newState g, at-leaf .same, refl);
-          taken = λ k. rw (d .need) (one-less (s .used) g (d .free));
-          untaken = λ k. absurd (true-not (d .writing) k);
+          untaken = λ k. true-not (d .writing) k;
         };
       })
     where
@@ -85,84 +96,49 @@ module _ (N : List ℕ) (G : Ground N) (M : List ℕ) (L F : ℕ) (l p : ℕ) (l
       at-leaf : Wrote (s .pages) (kept s l p g .pages) l p (Held (newState g))
       at-leaf = kept-wrote N G L F s l p g (o .pages) size (let k = o .few in let i = in-F in omega arith)
 
-  handed-served : (n : Found) (z : Looked) (q : Work) → slotAt (s .pages) l p ≡ Empty → Post N L F s l p x w n (lookingOf z q) → Served N L F s l p x w (orFresh n) (handedBy L N M z q l p w asker)
-  unfolding handedBy
-  handed-served n (Shared f) q bare d =
+  -- an answer of the parent's that ends the lookup
+  final-served : (z : Looked) (q : Work) → Final (today L N M) w z → Post N L F s l p x w (lookingOf z q) → Served N L F s l p x w (lookingOf z q)
+  final-served (Shared f) q e d =
       let t = d .done in
-      record {
-        step = t .step;
-        only = λ a b ne out. d .still a b out;
-        says = record { bytes = t .bytes; frame = t .frame; own = λ k. absurd (true-not k (t .reading)); taken = λ k. absurd (true-not k (t .reading)); untaken = λ k. t .untaken };
-      }
-  handed-served n (Own f u) q bare d =
+      record { step = t .step; only = λ a b ne out. d .still a b out; says = record { bytes = t .bytes; frame = t .frame; own = λ k. true-not k (t .reading); untaken = λ k. t .untaken } }
+  final-served Zero q e d =
       let t = d .done in
-      let wrote = kept-wrote N G L F q l p f (t .pages) size (let k = o .few in let i = t .frame in omega arith) in
-      settle-served (kept q l p f) (newState f) u (orFresh n) (t .step) (wrote .same) (t .bytes) (t .frame)
-      (λ a b ne out. others wrote a b ne ∙ d .still a b out)
-      (λ k. let c = t .taken k in rw (c .need) (c .frames)) (t .untaken)
-  handed-served n (New g) q bare d = rw not-hidden (fresh-served n g q bare (d .done))
-  handed-served n Zero q bare d =
-      let t = d .done in
-      subst (λ (v : Work). Served N L F s l p x w (orFresh n) (lookingOf Zero v)) (sym (t .same))
+      subst (λ (v : Work). Served N L F s l p x w (lookingOf Zero v)) (sym (t .same))
       (record { step = step-same N G L F s (s .told) o; only = λ a b ne out. refl; says = record { reading = t .reading; nothing = t .nothing; same = refl } })
-  handed-served n NoMemory q bare d =
-      let t = d .done in
-      record { step = t .step; only = λ a b ne out. d .still a b out; says = record { writing = t .writing; no-frame = t .no-frame; short = t .short } }
-  handed-served n Stopped q bare d = absurd (d .done)
+  final-served NoMemory q e d = let t = d .done in record { step = t .step; only = λ a b ne out. d .still a b out; says = record { writing = t .writing; no-frame = t .no-frame } }
+  final-served Stopped q e d = absurd (d .done)
+  final-served (Own f u) q e d = absurd e
+  final-served (New f) q e d = absurd e
 
   no-more : linksOf N .asks l p ≡ false → Near (linksOf N) (slotAt (s .pages)) l p x → x ≡ Nothing
   no-more z (none a e) = e
-  no-more z (here a k t b) = absurd (true-not a z)
-  no-more z (up a k d) = absurd (true-not a z)
+  no-more z (here a k t b) = true-not a z
+  no-more z (higher a k d) = true-not a z
 
-  -- no parent is asked
-  alone-by : (y : Found) (out : Bool) → freeFrameIn (s .used) ≡ y → slotAt (s .pages) l p ≡ Empty → x ≡ Nothing → w ≡ true → Served N L F s l p x w 1 (freshBy L y s l p false out)
-  unfolding freshBy cleared
-  alone-by Nothing out f bare z k =
-      record { step = step-same N G L F s (s .told) o; only = λ a b ne v. refl; says = record { writing = k; no-frame = f; short = let i = none-free (s .used) f in omega arith } }
-  alone-by (At g) true f bare z k =
-      fresh-served Nothing g (cleared L s g) bare (record { writing = k; nothing = z; need = refl; free = f; result = refl })
-  alone-by (At g) false f bare z k =
-      fresh-served Nothing g (cleared L s g) bare (record { writing = k; nothing = z; need = refl; free = f; result = refl })
+  nothing-by : Alone (today L N M) s (placeOf l p asker) → x ≡ Nothing
+  nothing-by b = no-more (sym (asks-same L N M l p asker) ∙ b .end) (above-by (b .empty) view)
 
-  alone-served : (out : Bool) → slotAt (s .pages) l p ≡ Empty → x ≡ Nothing → Served N L F s l p x w 1 (fresh L s l p false out w)
-  unfolding fresh
-  alone-served out bare z =
-      by-pick (Served N L F s l p x w 1) w
-      (λ k. alone-by (freeFrameIn (s .used)) out refl bare z k)
-      (λ k. record { step = step-same N G L F s (s .told) o; only = λ a b ne v. refl; says = record { reading = k; nothing = z; same = refl } })
+  parent-post : {d : ℕ} {y : End} (z : Looking) → (y ≡ Tired → ⊥) → Asked (today L N M) s (placeOf l p asker) → Looks (today L N M) w s d (up (today L N M) (placeOf l p asker)) y z → Post N L F s l p x w z
+  parent-post z never b k = ask N G M L F s l p x w o (sym (asks-same L N M l p asker) ∙ b .on) (b .empty) (above-by (b .empty) view) z never k
 
-  enter-served : (n : Found) (m : Looking) → (linksOf N .asks l p ≡ false → n ≡ Nothing)
-      → (linksOf N .asks l p ≡ true → slotAt (s .pages) l p ≡ Empty → Near (linksOf N) (slotAt (s .pages)) l p x → Post N L F s l p x w n m)
-      → Served N L F s l p x w (unlessHeld (slotAt (s .pages) l p) (orFresh n)) (enter L N M s l p w asker m)
-  unfolding enter
-  enter-served n m need ih =
-      by-pick (Served N L F s l p x w (unlessHeld (slotAt (s .pages) l p) (orFresh n))) (holdsOf (slotAt (s .pages) l p))
-      (λ k.
-      let e = holds-some (slotAt (s .pages) l p) k in
-      let y = own-by (e .0) (e .1) view in
-      settle-served s (e .0) false (unlessHeld (slotAt (s .pages) l p) (orFresh n)) (step-same N G L F s (s .told) o) (e .1) (rw y (λ j h. refl))
-      (let i = o .entries .frames l p (e .0) (e .1) in let u = o .used in omega arith) (λ a b ne out. refl) (λ j. rw (e .1) (omega arith)) (λ j. refl))
-      (λ k.
-      let z = holds-not (slotAt (s .pages) l p) k in
-      let d = above-by z view in
-      let takes : unlessHeld (slotAt (s .pages) l p) (orFresh n) ≡ orFresh n = rw z in
-      rw takes
-      (by-pick (Served N L F s l p x w (orFresh n)) (asksOf (nodeOf N l) p)
-      (λ a. let b = sym (asks-same N G l p size) ∙ a in handed-served n (m .answer) (m .work) z (ih b z d))
-      (λ a.
-      let b = sym (asks-same N G l p size) ∙ a in
-      rw (not-hidden, need b) (alone-served (outOf (nodeOf N l) p) z (no-more b d)))))
-
-  pub served : (k : ℕ) → height N G l ≤ k
-      → Served N L F s l p x w (unlessHeld (slotAt (s .pages) l p) (orFresh (needAbove (linksOf N) (slotAt (s .pages)) k l p))) (look L k N M s l p w asker)
-  unfolding look
-  served zero t =
-      enter-served (needAbove (linksOf N) (slotAt (s .pages)) zero l p) (lookingOf Stopped s) (need-none (linksOf N) (slotAt (s .pages)) zero l p)
-      (λ b z d. let h = lower N G l p b in absurd (omega arith))
-  served (suc k) t =
-      enter-served (needAbove (linksOf N) (slotAt (s .pages)) (suc k) l p) (look L k N M s (linksOf N .par l) (linksOf N .start l + p) w l) (need-none (linksOf N) (slotAt (s .pages)) (suc k) l p)
-      (λ b z d.
-      subst (λ (n : Found). Post N L F s l p x w n (look L k N M s (linksOf N .par l) (linksOf N .start l + p) w l))
-      (need-some (linksOf N) (slotAt (s .pages)) k l p b)
-      (ask N G M L F k s l p x w o b z d (let h = lower N G l p b in omega arith)))
+  pub served : {d : ℕ} {y : End} (z : Looking) → (y ≡ Tired → ⊥) → Looks (today L N M) w s d (placeOf l p asker) y z → Served N L F s l p x w z
+  unfolding cleared
+  served z never (has e y t) =
+      let b = own-by e y view in
+      serves-served s e (step-same N G L F s (s .told) o) y (rw b (λ j h. refl)) (let i = o .entries .frames l p e y in let u = o .used in omega arith) (λ a b ne out. refl) (λ j. refl) t
+  served z never (zeros b k e) =
+      let t = nothing-by b in
+      rw e (record { step = step-same N G L F s (s .told) o; only = λ a b ne v. refl; says = record { reading = k; nothing = t; same = refl } })
+  served z never (short b k f e) = rw e (record { step = step-same N G L F s (s .told) o; only = λ a b ne v. refl; says = record { writing = k; no-frame = f } })
+  served z never (stops g b k f h out e) = true-not h not-hidden
+  served z never (clears g b k f h out e) = true-not h not-hidden
+  served z never (fills g b k f h e) = let t = nothing-by b in rw e (fresh-served g (cleared L s g) (b .empty) (record { writing = k; nothing = t; free = f; result = refl }))
+  served z never (quits b e) = absurd (never refl)
+  served z never (rests b k e) = final-served (z .answer) (z .work) e (parent-post z never b k)
+  served z never (falls f v b k h e) = true-not h not-hidden
+  served z never (lands f v b k h e) = rw e (fresh-served f v (b .empty) (parent-post (lookingOf (New f) v) never b k .done))
+  served z never (takes f u v b k t) =
+      let d = parent-post (lookingOf (Own f u) v) never b k in
+      let m = d .done in
+      let wrote = kept-wrote N G L F v l p f (m .pages) size (let k = o .few in let i = m .frame in omega arith) in
+      serves-served (kept v l p f) (newState f) (m .step) (wrote .same) (m .bytes) (m .frame) (λ a b ne out. others wrote a b ne ∙ d .still a b out) (m .untaken) t

@@ -1,9 +1,4 @@
 pub mod Pass
-pub mod Table
-pub mod Rows
-pub mod Frames
-pub mod Bytes
-pub mod Sides
 pub mod Wood
 pub mod State
 pub mod Done

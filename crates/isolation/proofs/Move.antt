@@ -13,16 +13,19 @@ use Rattle.tables.specs.Tables.{nodeOf, withState}
 use Rattle.frames.specs.Frames.{freeFrameIn, copiedAt}
 use Rattle.notices.specs.Notices.{Told}
 use Rattle.lookup.specs.Work.{Work, workOf}
-use Rattle.lookup.specs.Lookup.{withTold, without, other}
+use Rattle.lookup.specs.Mode.{other}
+use Rattle.lookup.specs.Level.{withTold, without}
 use Rattle.sound.specs.Facts.{Holds}
 use Rattle.isolation.specs.Private.{linksOf}
-use Rattle.isolation.proofs.Table.{Wrote, others, wrote-state, wrote-none}
-use Rattle.isolation.proofs.Rows.{taken-out}
-use Rattle.isolation.proofs.Frames.{Idle, free-idle, not-idle, frame-taken, retagged}
-use Rattle.isolation.proofs.Bytes.{copied-size, copied-same, copied-other}
-use Rattle.isolation.proofs.Sides.{Sided, side-one, other-one, split-side}
 use Rattle.isolation.proofs.Wood.{Asked, Ground, asked}
-use Rattle.isolation.proofs.State.{Alike, Ok, Mid, page-low, node-low}
+use Rattle.isolation.proofs.State.{Alike, Mid}
+use Rattle.lookups.proofs.Table.{Wrote, others, wrote-state, wrote-none}
+use Rattle.lookups.proofs.Rows.{taken-out}
+use Rattle.lookups.proofs.Frames.{Idle, free-idle, not-idle, frame-taken, retagged}
+use Rattle.lookups.proofs.Bytes.{copied-size, copied-same, copied-other}
+use Rattle.lookups.proofs.Sides.{Sided, side-one, other-one, split-side}
+use Rattle.lookups.proofs.Ok.{Ok}
+use Rattle.lookups.proofs.Base.{page-low, node-low}
 
 module _ (N : List ℕ) (G : Ground N) (L F : ℕ) (c r : ℕ) (a₀ : linksOf N .asks c r ≡ true) where
   -- the page above, and its place
@@ -36,10 +39,10 @@ module _ (N : List ℕ) (G : Ground N) (L F : ℕ) (c r : ℕ) (a₀ : linksOf N
   facts = asked N G c r a₀
 
   q-low : q < 64
-  q-low = page-low N G L F h q (facts .inside)
+  q-low = page-low N (G .base) h q (facts .inside)
 
   h-low : h < 64
-  h-low = node-low N G L F h q (facts .inside)
+  h-low = node-low N (G .base) h q (facts .inside)
 
   -- another child that asks for the same page of the parent
   same-sided : (n p : ℕ) → linksOf N .asks n p ≡ true → linksOf N .par n ≡ h → Sided (nodeOf N h) n

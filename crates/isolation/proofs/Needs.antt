@@ -1,13 +1,12 @@
 -- What a lookup of one page leaves of the needs of the object's other pages; and when it is granted. Assumes nothing.
 use mathlib.Core.Path.{_≡_, refl, sym, ap, _∙_}
 use mathlib.Core.Bool.{Bool, true, false}
-use mathlib.Core.List.{List}
+use mathlib.Core.List.{List, []}
 use Prim.Native.Nat.{ℕ, zero, suc, _+_, _≤_, _<_}
 use native.Mathlib.Omega.{arith}
-use Rattle.logic.specs.Pick.{pick}
 use Rattle.logic.specs.declared.Found.{Found}
-use Rattle.logic.specs.declared.Found.the-variants.{Nothing}
 use Rattle.entry.specs.declared.Slot.{Slot}
+use Rattle.entry.specs.declared.Slot.the-variants.{Empty, Held}
 use Rattle.tables.specs.Pool.{Pool}
 use Rattle.tables.specs.Tables.{nodeOf, slotAt}
 use Rattle.frames.specs.Frames.{freeCount}
@@ -16,29 +15,41 @@ use Rattle.lookup.specs.declared.Looked.{Looked}
 use Rattle.lookup.specs.declared.Looked.the-variants.{Shared, Zero, Own, New, NoMemory, Stopped}
 use Rattle.lookup.specs.Work.{Work, Looking}
 use Rattle.sound.specs.Facts.{Leaf}
-use Rattle.isolation.specs.Walk.{Links, Over, byteOf}
+use Rattle.isolation.specs.Walk.{Over, byteOf}
 use Rattle.isolation.specs.Walk.Over.{parent, higher}
 use Rattle.isolation.specs.Private.{linksOf, Private}
-use Rattle.isolation.specs.Need.{passing, needAbove, need}
+use Rattle.lookups.specs.Need.{needIn, need}
+use Rattle.lookup.specs.Mode.{Mode, today, placeOf, up, asks}
+use Rattle.lookup.specs.Descent.{Way, further, walkBy, walk}
 use Rattle.isolation.specs.Kept.{Answers, Kept}
-use Rattle.isolation.proofs.Pass.{true-not, view-one}
+use Rattle.isolation.proofs.Pass.{view-one}
 use Rattle.isolation.proofs.Wood.{Ground, height}
 use Rattle.isolation.proofs.Ask.{over-low}
 use Rattle.isolation.proofs.Look.{ground}
+use Rattle.logic.proofs.Laws.{true-not}
 
 -- a page's need depends on the entries above it alone
 
-agree-by : (T : Links) (E E′ : ℕ → ℕ → Slot) (k n p : ℕ) (b : Bool) → T .asks n p ≡ b → ((x y : ℕ) → Over T n p x y → E′ x y ≡ E x y)
-    → (((x y : ℕ) → Over T (T .par n) (T .start n + p) x y → E′ x y ≡ E x y) → needAbove T E′ k (T .par n) (T .start n + p) ≡ needAbove T E k (T .par n) (T .start n + p))
-    → pick b (passing (E′ (T .par n) (T .start n + p)) (T .both n p) (needAbove T E′ k (T .par n) (T .start n + p))) Nothing
-    ≡ pick b (passing (E (T .par n) (T .start n + p)) (T .both n p) (needAbove T E k (T .par n) (T .start n + p))) Nothing
-agree-by T E E′ k n p true a h ih = rw (h (T .par n) (T .start n + p) (parent a refl refl), ih (λ x y d. h x y (higher a d)))
-agree-by T E E′ k n p false a h ih = refl
+module _ (N P P′ : List ℕ) where
+  abbrev m : Mode
+  m = today 0 N []
 
-pub need-agree : (T : Links) (E E′ : ℕ → ℕ → Slot) (k n p : ℕ) → ((x y : ℕ) → Over T n p x y → E′ x y ≡ E x y) → needAbove T E′ k n p ≡ needAbove T E k n p
-unfolding needAbove
-need-agree T E E′ zero n p h = refl
-need-agree T E E′ (suc k) n p h = agree-by T E E′ k n p (T .asks n p) refl h (need-agree T E E′ k (T .par n) (T .start n + p))
+  walk-by : (s : Slot) (a : Bool) (y y′ : Way) → (a ≡ true → y′ ≡ y) → walkBy s a (further y′) ≡ walkBy s a (further y)
+  walk-by (Held s) a y y′ h = refl
+  walk-by Empty true y y′ h = ap further (h refl)
+  walk-by Empty false y y′ h = refl
+
+  walk-agree : (k n i c : ℕ) → slotAt P′ n i ≡ slotAt P n i → ((a b : ℕ) → Over (linksOf N) n i a b → slotAt P′ a b ≡ slotAt P a b) → walk m k P′ (placeOf n i c) ≡ walk m k P (placeOf n i c)
+  unfolding walk asks
+  walk-agree zero n i c e h = rw e
+  walk-agree (suc k) n i c e h =
+      let T = linksOf N in
+      rw e (walk-by (slotAt P n i) (T .asks n i) (walk m k P (up m (placeOf n i c))) (walk m k P′ (up m (placeOf n i c)))
+      (λ a. walk-agree k (T .par n) (T .start n + i) n (h _ _ (parent a refl refl)) (λ x y d. h x y (higher a d))))
+
+  pub need-agree : (n i : ℕ) → slotAt P′ n i ≡ slotAt P n i → ((a b : ℕ) → Over (linksOf N) n i a b → slotAt P′ a b ≡ slotAt P a b) → need N P′ n i ≡ need N P n i
+  unfolding needIn
+  need-agree n i e h = rw (walk-agree 64 n i n e h)
 
 -- walks from two pages of a node never meet
 pub over-one : (N : List ℕ) (G : Ground N) {n p q a b : ℕ} → Over (linksOf N) n p a b → Over (linksOf N) n q a b → p ≡ q
@@ -50,18 +61,16 @@ over-one N G (higher x d) (higher y e) = let h = over-one N G d e in omega arith
 module _ (L : ℕ) (A : ℕ → ℕ → ℕ → ℕ) (p : Pool) (P : Private L A p) (t : Told) (l i : ℕ) (write : Bool) (r : Looking) (K : Kept L A p t l i write r) where
   -- the object's other pages need what they needed
   pub need-still : (j : ℕ) → (j ≡ i → ⊥) → need (p .nodes) (r .work .pages) l j ≡ need (p .nodes) (p .pages) l j
-  unfolding need
   need-still j ne =
       let G = ground L A p P in
       let e = K .only l j (λ x y. ne y) (λ d. let h = over-low (p .nodes) G d in omega arith) in
-      let q = need-agree (linksOf (p .nodes)) (slotAt (p .pages)) (slotAt (r .work .pages)) 64 l j
-      (λ a b d. K .only a b (λ x y. let h = over-low (p .nodes) G d in let k = ap (height (p .nodes) G) x in omega arith) (λ c. ne (over-one (p .nodes) G d c))) in
-      rw (e, q)
+      need-agree (p .nodes) (p .pages) (r .work .pages) l j e
+      (λ a b d. K .only a b (λ x y. let h = over-low (p .nodes) G d in let k = ap (height (p .nodes) G) x in omega arith) (λ c. ne (over-one (p .nodes) G d c)))
 
   -- a write is granted exactly if the page needs no more frames than are free
   granted-by : (z : Looked) (w : Work) → Answers L p t l i (A l i) write z w → write ≡ true → need (p .nodes) (p .pages) l i ≤ freeCount (p .used) → (f : ℕ) × (z ≡ Shared f)
   granted-by (Shared f) w d k h = (f, refl)
-  granted-by Zero w d k h = absurd (true-not k (d .reading))
+  granted-by Zero w d k h = true-not k (d .reading)
   granted-by NoMemory w d k h = let s = d .short in absurd (omega arith)
   granted-by (Own f u) w d k h = absurd d
   granted-by (New f) w d k h = absurd d
@@ -72,7 +81,7 @@ module _ (L : ℕ) (A : ℕ → ℕ → ℕ → ℕ) (p : Pool) (P : Private L A
 
   refused-by : (z : Looked) (w : Work) → Answers L p t l i (A l i) write z w → write ≡ true → freeCount (p .used) < need (p .nodes) (p .pages) l i → z ≡ NoMemory
   refused-by (Shared f) w d k h = let s = d .taken k in absurd (omega arith)
-  refused-by Zero w d k h = absurd (true-not k (d .reading))
+  refused-by Zero w d k h = true-not k (d .reading)
   refused-by NoMemory w d k h = refl
   refused-by (Own f u) w d k h = absurd d
   refused-by (New f) w d k h = absurd d

@@ -11,31 +11,12 @@ use Rattle.entry.specs.declared.PageState.{PageState}
 use Rattle.entry.specs.declared.PageStateTag.the-variants.{Owned}
 use Rattle.entry.specs.declared.Slot.{Slot}
 use Rattle.entry.specs.declared.Slot.the-variants.{Empty, Held}
+use Rattle.logic.proofs.Laws.{true-not}
+use Rattle.lookups.proofs.Spots.{held-one, held-not, Spot, spot}
+use Rattle.lookups.proofs.Spots.Spot.{there, elsewhere}
 use Rattle.isolation.specs.Walk.{Links, Near, View}
 use Rattle.isolation.specs.Walk.Near.{none, here, up}
 use Rattle.isolation.specs.Walk.View.{own, above}
-
-pub held-one : {s t : PageState} → Held s ≡ Held t → s ≡ t
-held-one h = cc
-
-pub held-not : {s : PageState} {y : Slot} → y ≡ Held s → y ≡ Empty → ⊥
-held-not h k = let z : _≡_ {A = ℕ} 0 1 = cc in omega arith
-
-pub true-not : {b : Bool} → b ≡ true → b ≡ false → ⊥
-true-not h k = let z : _≡_ {A = ℕ} 0 1 = cc in omega arith
-
--- two places: the same, or not
-pub data Place (a b h q : ℕ) : Type 0 where
-  there : a ≡ h → b ≡ q → Place a b h q
-  elsewhere : (a ≡ h → b ≡ q → ⊥) → Place a b h q
-
-place-by : (a b h q : ℕ) (s t : Bool) → eqb a h ≡ s → eqb b q ≡ t → Place a b h q
-place-by a b h q true true x y = there (eqb-true a h x) (eqb-true b q y)
-place-by a b h q true false x y = elsewhere (λ i j. eqb-false b q y j)
-place-by a b h q false t x y = elsewhere (λ i j. eqb-false a h x i)
-
-pub place : (a b h q : ℕ) → Place a b h q
-place a b h q = place-by a b h q (eqb a h) (eqb b q) refl refl
 
 -- what the lemmas rely on: a parent is no leaf, a side is a split tag; `reach` holds where a leaf's walk comes by, for a rule that looks who is below
 pub record Climbs (T : Links) (leaf : ℕ → Type 0) (reach : ℕ → ℕ → Type 0) : Type 0 where
@@ -71,7 +52,7 @@ module _ (T : Links) (leaf : ℕ → Type 0) (reach : ℕ → ℕ → Type 0) (C
   sib-by n p x a i j b (e, h, u, q) = (At (e .frame), here {s = e} a (rw (i, j) h) u refl, rw b q)
 
   here-by : (n p : ℕ) (x : Found) (e : PageState) → T .asks n p ≡ true → E (T .par n) (T .start n + p) ≡ Held e → (e .tag ≡ T .side n → ⊥) → x ≡ At (e .frame) → (n ≡ c → p ≡ r → ⊥) → reach n p
-      → Place (T .par n) (T .start n + p) (T .par c) (T .start c + r) → Place (T .par n) (T .start n + p) c r → Nears T Q E′ n p x
+      → Spot (T .par n) (T .start n + p) (T .par c) (T .start c + r) → Spot (T .par n) (T .start n + p) c r → Nears T Q E′ n p x
   here-by n p x e a h u b ne y (there i j) w =
       let d : e ≡ s = held-one (sym h ∙ (rw (i, j) (S .over))) in
       sib-by n p x a i j (b ∙ ap (λ (v : PageState). At (v .frame)) d)
@@ -87,7 +68,7 @@ module _ (T : Links) (leaf : ℕ → Type 0) (reach : ℕ → ℕ → Type 0) (C
 
   up-by : (n p : ℕ) (x : Found) → T .asks n p ≡ true → E (T .par n) (T .start n + p) ≡ Empty → Near T E (T .par n) (T .start n + p) x
       → ((T .par n ≡ c → T .start n + p ≡ r → ⊥) → Nears T Q E′ (T .par n) (T .start n + p) x)
-      → Place (T .par n) (T .start n + p) (T .par c) (T .start c + r) → Place (T .par n) (T .start n + p) c r → Nears T Q E′ n p x
+      → Spot (T .par n) (T .start n + p) (T .par c) (T .start c + r) → Spot (T .par n) (T .start n + p) c r → Nears T Q E′ n p x
   up-by n p x a h d ih (there i j) w = absurd (held-not (S .over) (rw (← i, ← j) h))
   up-by n p x a h d ih (elsewhere k) (there i j) = (
     At (t .frame),
@@ -99,13 +80,13 @@ module _ (T : Links) (leaf : ℕ → Type 0) (reach : ℕ → ℕ → Type 0) (C
   -- a walk that does not start at (c, r) brings the same
   pub walk : {n p : ℕ} {x : Found} → reach n p → Near T E n p x → (n ≡ c → p ≡ r → ⊥) → Nears T Q E′ n p x
   walk y (none a z) ne = (Nothing, none a refl, rw z (S .zeros))
-  walk y (here {n} {p} {x} {s = e} a h u b) ne = here-by n p x e a h u b ne y (place (T .par n) (T .start n + p) (T .par c) (T .start c + r)) (place (T .par n) (T .start n + p) c r)
-  walk y (up {n} {p} {x} a h d) ne = up-by n p x a h d (λ l. walk (C .reach-up n p a y) d l) (place (T .par n) (T .start n + p) (T .par c) (T .start c + r)) (place (T .par n) (T .start n + p) c r)
+  walk y (here {n} {p} {x} {s = e} a h u b) ne = here-by n p x e a h u b ne y (spot (T .par n) (T .start n + p) (T .par c) (T .start c + r)) (spot (T .par n) (T .start n + p) c r)
+  walk y (up {n} {p} {x} a h d) ne = up-by n p x a h d (λ l. walk (C .reach-up n p a y) d l) (spot (T .par n) (T .start n + p) (T .par c) (T .start c + r)) (spot (T .par n) (T .start n + p) c r)
 
   leaf-not : (l : ℕ) → leaf l → l ≡ T .par c → ⊥
   leaf-not l f i = C .inner c r (S .asked) (subst leaf i f)
 
-  views-by : (l p : ℕ) (x : Found) → leaf l → View T E l p x → Place l p c r → Views T Q E′ l p x
+  views-by : (l p : ℕ) (x : Found) → leaf l → View T E l p x → Spot l p c r → Views T Q E′ l p x
   views-by l p x f (own h b) (there i j) = absurd (held-not h (rw (i, j) (S .bare)))
   views-by l p x f (own {s = e} h b) (elsewhere k) = (At (e .frame), own {s = e} (S .rest l p (λ i j. leaf-not l f i) k ∙ h) refl, rw b (S .keep l p e h))
   views-by l p x f (above h d) (there i j) = (At (t .frame), own {s = t} (rw (i, j) (S .given)) refl, rw (over-is x (subst₂ (λ (u v : ℕ). Near T E u v x) i j d)) (S .same))
@@ -113,7 +94,7 @@ module _ (T : Links) (leaf : ℕ → Type 0) (reach : ℕ → ℕ → Type 0) (C
 
   -- every leaf reads the same
   pub views : (l p : ℕ) (x : Found) → leaf l → View T E l p x → Views T Q E′ l p x
-  views l p x f d = views-by l p x f d (place l p c r)
+  views l p x f d = views-by l p x f d (spot l p c r)
 
 -- a step that leaves the parents' entries alone
 pub record Aside (T : Links) (Q : Found → Found → Type 0) (E E′ : ℕ → ℕ → Slot) : Type 0 where

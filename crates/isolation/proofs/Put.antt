@@ -19,12 +19,13 @@ use Rattle.sound.specs.Facts.{Leaf, Holds}
 use Rattle.isolation.specs.Walk.{View, byteOf}
 use Rattle.isolation.specs.Walk.View.{own, above}
 use Rattle.isolation.specs.Private.{linksOf, Shows, Private, put}
-use Rattle.isolation.proofs.Pass.{held-one, held-not, Place, place, Aside, views-aside}
-use Rattle.isolation.proofs.Pass.Place.{there, elsewhere}
-use Rattle.isolation.proofs.Bytes.{frame-one, frame-room, pasted-length, pasted-inside, pasted-outside}
+use Rattle.isolation.proofs.Pass.{Aside, views-aside}
 use Rattle.isolation.proofs.Wood.{asked, leaf-kind}
 use Rattle.isolation.proofs.State.{Alike}
 use Rattle.isolation.proofs.Look.{ground}
+use Rattle.lookups.proofs.Spots.{held-one, held-not, Spot, spot}
+use Rattle.lookups.proofs.Spots.Spot.{there, elsewhere}
+use Rattle.lookups.proofs.Bytes.{frame-one, frame-room, pasted-length, pasted-inside, pasted-outside}
 
 -- the put bytes, the page's other bytes, and all other pages
 
@@ -108,7 +109,7 @@ module _ (L : ℕ) (A : ℕ → ℕ → ℕ → ℕ) (p : Pool) (P : Private L A
         zeros = λ k h. refl;
       }
 
-  shows-by : (m j : ℕ) → Shows L p m j (A m j) → Place m j l i → Shows L stored m j (put A l i at n b from m j)
+  shows-by : (m j : ℕ) → Shows L p m j (A m j) → Spot m j l i → Shows L stored m j (put A l i at n b from m j)
   shows-by m j v (there x y) =
       subst₂ (λ (c d : ℕ). Shows L stored c d (put A l i at n b from c d)) (sym x) (sym y)
       (record { source = At (s .frame); view = own holds refl; bytes = λ k h. frame-here k h (before (P .shows l i leaf low) k h) })
@@ -136,5 +137,5 @@ module _ (L : ℕ) (A : ℕ → ℕ → ℕ → ℕ) (p : Pool) (P : Private L A
           mappings = P .sound .mappings;
         };
         windows = P .windows;
-        shows = λ m j f h. shows-by m j (P .shows m j f h) (place m j l i);
+        shows = λ m j f h. shows-by m j (P .shows m j f h) (spot m j l i);
       }

@@ -12,28 +12,22 @@ use Rattle.entry.specs.declared.Slot.the-variants.{Empty, Held}
 use Rattle.entry.specs.Entry.{newState}
 use Rattle.tables.specs.Tables.{nodeOf, slotAt}
 use Rattle.lookup.specs.Work.{Work}
-use Rattle.lookup.specs.Lookup.{withTold, kept}
+use Rattle.lookup.specs.Level.{withTold, kept}
 use Rattle.notices.specs.Notices.{Told}
 use Rattle.sound.specs.Facts.{Leaf, Holds, Entries}
 use Rattle.isolation.specs.Walk.{View, byteOf}
 use Rattle.isolation.specs.Private.{linksOf}
 use Rattle.isolation.proofs.Pass.{Climbs, Pass, Views, views}
-use Rattle.isolation.proofs.Table.{Wrote, others, wrote-state}
-use Rattle.isolation.proofs.Rows.{Loose, put-in}
-use Rattle.isolation.proofs.Sides.{side-owned}
-use Rattle.isolation.proofs.Wood.{Ground, asked, live-low, sized-live, lower, leaf-kind, height}
+use Rattle.lookups.proofs.Ok.{Ok}
+use Rattle.lookups.proofs.Base.{page-low, node-low}
+use Rattle.isolation.proofs.Wood.{Ground, asked, lower, leaf-kind, height}
+use Rattle.lookups.proofs.Table.{Wrote, others, wrote-state}
+use Rattle.lookups.proofs.Rows.{Loose, put-in}
+use Rattle.lookups.proofs.Sides.{side-owned}
 
 -- the same L bytes
 abbrev pub Alike : ℕ → List ℕ → List ℕ → Found → Found → Type 0
 Alike L Y Y′ x y = (k : ℕ) → k < L → byteOf L Y′ y k ≡ byteOf L Y x k
-
--- F frames; the tables have their lengths, and the entries are sound
-pub record Ok (N : List ℕ) (L F : ℕ) (s : Work) : Type 0 where
-  pub few : F ≤ 1024
-  pub pages : length (s .pages) ≡ 4096
-  pub used : length (s .used) ≡ F
-  pub memory : length (s .memory) ≡ F * L
-  pub entries : Entries N (s .pages) (s .used)
 
 -- sound after it, and every leaf's page reads the same bytes
 pub record Step (N : List ℕ) (L F : ℕ) (s s′ : Work) : Type 0 where
@@ -79,16 +73,9 @@ module _ (N : List ℕ) (G : Ground N) (L F : ℕ) where
             (v .0, v .1, λ k h. v .2 k h ∙ u .2 k h);
       }
 
-  -- a page that lies below its node's size has a place in the table
-  pub page-low : (c r : ℕ) → r < nodeOf N c .size → r < 64
-  page-low c r l = let h = G .tree .sizes c in omega arith
-
-  pub node-low : (c r : ℕ) → r < nodeOf N c .size → c < 64
-  node-low c r l = live-low N G c (sized-live N G c r l)
-
   -- frame f kept at (c, r)
   pub kept-wrote : (s : Work) (c r f : ℕ) → length (s .pages) ≡ 4096 → r < nodeOf N c .size → f < 1024 → Wrote (s .pages) (kept s c r f .pages) c r (Held (newState f))
-  kept-wrote s c r f len l m = wrote-state (s .pages) c r (page-low c r l) (node-low c r l) len (newState f) (omega arith) (omega arith)
+  kept-wrote s c r f len l m = wrote-state (s .pages) c r (page-low N (G .base) c r l) (node-low N (G .base) c r l) len (newState f) (omega arith) (omega arith)
 
   pub not-par : (c r : ℕ) → linksOf N .asks c r ≡ true → linksOf N .par c ≡ c → ⊥
   not-par c r a e = let h = lower N G c r a in let j = ap (height N G) e in omega arith

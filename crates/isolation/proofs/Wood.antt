@@ -7,18 +7,15 @@ use native.Mathlib.Omega.{arith}
 use lib.Dec.{eqb}
 use lib.ListN.{length}
 use borrow.Author.Tests.{eqb-false, ne-eqb, eq-eqb, leb-false, lt-leb, le-leb, lt-ltb, not-true}
-use Rattle.logic.specs.Below.{sumBelow}
 use Rattle.logic.proofs.Means.{equal, less, split}
 use Rattle.logic.proofs.Laws.{and-left, and-right, and-both}
 use Rattle.node.specs.declared.Node.{Node}
 use Rattle.node.specs.Node.{hiddenOf, leafOf, windowOf, outOf}
 use Rattle.tables.specs.Tables.{nodeOf}
-use Rattle.lookup.specs.Lookup.{asksOf}
 use Rattle.sound.specs.Facts.{Live, Hidden, Leaf, Tree}
-use Rattle.soundness.proofs.Records.{node-out}
-use Rattle.soundness.proofs.Chains.{rank, rank-up, rank-most}
+use Rattle.lookups.proofs.Base.{Base, depth, deeper}
 use Rattle.isolation.specs.Private.{linksOf, Windows}
-use Rattle.isolation.proofs.Sides.{Sided, sided-by}
+use Rattle.lookups.proofs.Sides.{Sided, sided-by}
 
 -- page r of c asks c's parent
 pub record Asked (N : List ℕ) (c r : ℕ) : Type 0 where
@@ -29,37 +26,17 @@ pub record Asked (N : List ℕ) (c r : ℕ) : Type 0 where
   pub window : windowOf (nodeOf N c) (linksOf N .start c + r) ≡ true
   pub inside : linksOf N .start c + r < nodeOf N (linksOf N .par c) .size
 
-term-most : (f : ℕ → ℕ) (m j : ℕ) → j < m → f j ≤ sumBelow f m
-unfolding sumBelow
-term-most f zero j l = absurd (omega arith)
-term-most f (suc m) j l =
-    split (equal j m)
-    (λ e. let q : f j ≡ f m = rw e in omega arith)
-    (λ ne. let q = term-most f m j (omega arith) in omega arith)
-
 hidden-test : (n : Node) → n .kind ≡ 3 → hiddenOf n ≡ true
 hidden-test n h = eq-eqb (n .kind) 3 h
 
 -- the nodes are sound and their windows whole
 pub record Ground (N : List ℕ) : Type 0 where
-  pub next : ℕ
-  pub len : length N ≡ 1024
-  pub tree : Tree N next
+  pub base : Base N
   pub windows : Windows N
 
 module _ (N : List ℕ) (G : Ground N) where
-  pub live-low : (n : ℕ) → Live N n → n < 64
-  live-low n live = split (less n 64) (λ l. l) (λ out. absurd (live (ap (λ (r : Node). r .kind) (node-out N (G .len) n (omega arith)))))
-
-  inside-by : (n h : ℕ) → nodeOf N n .parent ≡ h + 1 → h < 64
-  inside-by n h e = let k = G .tree .parents n h e .0 in live-low h (λ z. omega arith)
-
-  pub height : ℕ → ℕ
-  height n = rank N (G .len) inside-by (G .tree .chains) n
-
-  pub height-most : (n : ℕ) → height n ≤ 64
-  unfolding height
-  height-most n = rank-most N (G .len) inside-by (G .tree .chains) n
+  abbrev pub height : ℕ → ℕ
+  height n = depth N (G .base) n
 
   -- the bounds of a page that asks
   in-by : (c r h : ℕ) (b : Bool) → nodeOf N c .parent ≡ h + 1 → hiddenOf (nodeOf N c) ≡ b → outOf (nodeOf N c) r ≡ false → r < nodeOf N c .size
@@ -86,17 +63,17 @@ module _ (N : List ℕ) (G : Ground N) where
       let l = in-by c r h (hiddenOf (nodeOf N c)) e refl o in
       let u = G .windows .whole c h e in
       let v = G .windows .inside c h e in
-      let k = G .tree .parents c h e in
+      let k = G .base .tree .parents c h e in
       record {
         parent = e;
         hidden = k .0;
-        sided = sided-by (nodeOf N h) c (hidden-test (nodeOf N h) (k .0)) (G .tree .distinct h (k .0)) (k .1);
+        sided = sided-by (nodeOf N h) c (hidden-test (nodeOf N h) (k .0)) (G .base .tree .distinct h (k .0)) (k .1);
         size = l;
         window = in-window (nodeOf N c) r u l;
         inside = omega arith;
       }
 
-  -- a page below the size lies inside, and its parent's page has a number that fits
+  -- a page below the size lies inside
   out-by : (c r : ℕ) (b : Bool) → hiddenOf (nodeOf N c) ≡ b → r < nodeOf N c .size → outOf (nodeOf N c) r ≡ false
   unfolding outOf
   out-by c r true k l = rw k (lt-leb (nodeOf N c .size) r l)
@@ -110,26 +87,8 @@ module _ (N : List ℕ) (G : Ground N) where
   pub not-out : (c r : ℕ) → r < nodeOf N c .size → outOf (nodeOf N c) r ≡ false
   not-out c r l = out-by c r (hiddenOf (nodeOf N c)) refl l
 
-  start-low : (c : ℕ) → nodeOf N c .«parent_offset» ≤ 1073741824
-  start-low c =
-      split (less c 64)
-      (λ l. let q = term-most (λ n. nodeOf N n .«parent_offset») 64 c l in let s = G .tree .starts in let m = G .tree .next-most in omega arith)
-      (λ out. rw (node-out N (G .len) c (omega arith)) (omega arith))
-
-  pub asks-same : (c r : ℕ) → r < nodeOf N c .size → asksOf (nodeOf N c) r ≡ linksOf N .asks c r
-  unfolding asksOf
-  asks-same c r l =
-      let s = start-low c in
-      let z = G .tree .sizes c in
-      rw (lt-ltb (nodeOf N c .«parent_offset» + r) 4294967296 (omega arith)) (by (linksOf N .asks c r))
-    where
-      by : (b : Bool) → (b && true) ≡ b
-      by true = refl
-      by false = refl
-
   pub lower : (c r : ℕ) → linksOf N .asks c r ≡ true → height c ≡ suc (height (linksOf N .par c))
-  unfolding height
-  lower c r a = rank-up N (G .len) inside-by (G .tree .chains) c (linksOf N .par c) (asked c r a .parent)
+  lower c r a = deeper N (G .base) c (linksOf N .par c) (asked c r a .parent)
 
   pub leaf-kind : (n : ℕ) → Leaf N n → Hidden N n → ⊥
   leaf-kind n l h = let k : leafOf (nodeOf N n) ≡ false = rw h in let z : _≡_ {A = ℕ} 0 1 = cc in omega arith
@@ -138,4 +97,4 @@ module _ (N : List ℕ) (G : Ground N) where
   leaf-live n l h = let k : leafOf (nodeOf N n) ≡ false = rw h in let z : _≡_ {A = ℕ} 0 1 = cc in omega arith
 
   pub sized-live : (n r : ℕ) → r < nodeOf N n .size → Live N n
-  sized-live n r l k = let q = ap (λ (x : Node). x .size) (G .tree .blank n k) in omega arith
+  sized-live n r l k = let q = ap (λ (x : Node). x .size) (G .base .tree .blank n k) in omega arith

@@ -15,7 +15,7 @@ use Rattle.notices.specs.Notices.{Told}
 use Rattle.sound.specs.Facts.{Holds}
 use Rattle.isolation.specs.Walk.{Over}
 use Rattle.isolation.specs.Private.{linksOf, Private}
-use Rattle.isolation.specs.Need.{need}
+use Rattle.lookups.specs.Need.{need}
 
 -- the pool with what a lookup leaves; and what a lookup starts from
 abbrev pub poolWith : Pool → Work → Pool

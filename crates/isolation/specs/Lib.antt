@@ -1,4 +1,3 @@
 pub mod Walk
 pub mod Private
-pub mod Need
 pub mod Kept

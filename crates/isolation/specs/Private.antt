@@ -11,7 +11,7 @@ use Rattle.logic.specs.declared.Found.{Found}
 use Rattle.node.specs.Node.{windowOf, outOf, sideOf}
 use Rattle.tables.specs.Pool.{Pool}
 use Rattle.tables.specs.Tables.{nodeOf, slotAt}
-use Rattle.lookup.specs.Lookup.{other}
+use Rattle.lookup.specs.Mode.{other}
 use Rattle.sound.specs.Facts.{Leaf, Sound}
 use Rattle.isolation.specs.Walk.{Links, View, byteOf}
 

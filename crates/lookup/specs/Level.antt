@@ -29,12 +29,18 @@ abbrev pub withTold : Work → Told → Work
 withTold w t = workOf (w .pages) (w .used) (w .memory) t
 
 -- the frame kept by the node, 563, 579 and 593
+abbrev pub kept : Work → ℕ → ℕ → ℕ → Work
+kept w n i f = withPages w (withState (w .pages) n i (newState f))
+
 abbrev pub keptAt : Work → Place → ℕ → Work
-keptAt w p f = withPages w (withState (w .pages) (p .node) (p .page) (newState f))
+keptAt w p f = kept w (p .node) (p .page) f
 
 -- the frame taken out of the node, 609 and 629
+abbrev pub without : Work → ℕ → ℕ → Work
+without w n i = withPages w (withoutState (w .pages) n i)
+
 abbrev pub outAt : Place → Work → Work
-outAt p w = withPages w (withoutState (w .pages) (p .node) (p .page))
+outAt p w = without w (p .node) (p .page)
 
 -- a frame taken and cleared, 556; and given back
 unfoldable pub cleared : ℕ → Work → ℕ → Work

@@ -21,13 +21,13 @@ use Rattle.pool.specs.Calls.{findObject, atNode, onNode}
 use Rattle.ranges.specs.Ranges.{cachedOf, insideOf, againstReading}
 use Rattle.isolation.specs.Private.{Private}
 use Rattle.isolation.specs.Kept.{workIn, Gives, Answers}
-use Rattle.isolation.proofs.Bytes.{frame-room}
 use Rattle.isolation.proofs.Look.{look-keeps}
-use Rattle.arrays.proofs.Base.{node-low}
 use Rattle.peek.specs.Peek.{zeroPageOf, placeBy, placeAt, place, shownAt, frameBytes, peek}
 use Rattle.shows.specs.Shows.{ReadAs, BytesOf}
 use Rattle.shows.proofs.Walk.{seek-reads}
 use Rattle.shows.proofs.Bytes.{zero-byte, frame-byte, shown-length}
+use Rattle.lookups.proofs.Bytes.{frame-room}
+use Rattle.lookups.proofs.Base.{node-low}
 
 module _ (L : ℕ) (A : ℕ → ℕ → ℕ → ℕ) (p : Pool) (P : Private L A p) (zero : List ℕ) (good : zeroPageOf L zero ≡ true) (n page : ℕ) (leaf : Leaf (p .nodes) n) (low : page < nodeOf (p .nodes) n .size) where
   abbrev t : Told

@@ -16,10 +16,10 @@ use Rattle.lookup.specs.declared.Looked.{Looked}
 use Rattle.lookup.specs.declared.Looked.the-variants as K
 use Rattle.seek.specs.declared.Sought.{Sought}
 use Rattle.seek.specs.declared.Sought.the-variants.{Shared, Zero, Absent, Moves, Stops}
-use Rattle.isolation.proofs.Bytes.{frame-room, copied-inside, zeroed-inside}
 use Rattle.page.specs.Pages.{fetchedBy}
 use Rattle.peek.specs.Peek.{blankByte, zeroPageOf, placeBy, frameBytes, shownAt}
 use Rattle.shows.specs.Shows.{ReadAs}
+use Rattle.lookups.proofs.Bytes.{frame-room, copied-inside, zeroed-inside}
 
 -- n elements from place b on
 

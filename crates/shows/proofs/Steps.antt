@@ -8,7 +8,7 @@ use lib.Dec.{eqb}
 use lib.ListN.{length}
 use borrow.Author.Tests.{eqb-true, leb-false, not-true}
 use Rattle.logic.specs.Pick.{pick}
-use Rattle.logic.proofs.Laws.{and-left, and-right}
+use Rattle.logic.proofs.Laws.{and-left, and-right, by-pick}
 use Rattle.entry.specs.declared.PageState.{PageState}
 use Rattle.entry.specs.declared.Slot.{Slot}
 use Rattle.entry.specs.declared.Slot.the-variants.{Empty, Held}
@@ -21,14 +21,13 @@ use Rattle.lookup.specs.declared.Looked.the-variants.{Shared, Zero, Own, New, N
 use Rattle.lookup.specs.Work.{Work, workOf, Looking, lookingOf}
 use Rattle.lookup.specs.Lookup.{asksOf, other, kept, without, fresh, otherTold, shareOr, hiddenStep, leafTold, settleBy, settle, handedBy, handed, enter}
 use Rattle.sound.specs.Facts.{Holds}
-use Rattle.isolation.proofs.Done.{by-pick}
-use Rattle.isolation.proofs.Table.{wrote-none}
-use Rattle.arrays.proofs.Base.{Base, page-low, node-low, asked-low}
-use Rattle.arrays.proofs.Loose.{put-wrote}
 use Rattle.seek.specs.declared.Sought.{Sought}
 use Rattle.seek.specs.declared.Sought.the-variants.{Shared as Stays, Zero as Zeros, Absent, Moves, Stops}
 use Rattle.seek.specs.declared.Here.the-variants.{Seen, Above}
 use Rattle.seek.specs.Seek.{movesOf, absentOf, climbsOf, hereBy, hereOf, goUp}
+use Rattle.lookups.proofs.Table.{wrote-none}
+use Rattle.lookups.proofs.Base.{Base, page-low, node-low, asked-low}
+use Rattle.lookups.proofs.Loose.{put-wrote}
 
 -- frame f of F, shared or handed down untold
 abbrev pub Carries : ℕ → ℕ → Looked → Type 0

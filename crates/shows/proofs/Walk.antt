@@ -16,18 +16,18 @@ use Rattle.lookup.specs.Work.{workOf}
 use Rattle.lookup.specs.Lookup.{asksOf, look}
 use Rattle.sound.specs.Facts.{Leaf, Sound}
 use Rattle.soundness.proofs.Ancestors.{above}
-use Rattle.isolation.proofs.Pass.{true-not}
 use Rattle.bounds.specs.Reading.{Answers}
 use Rattle.bounds.specs.Reading.Answers.{frame, zeros}
-use Rattle.bounds.proofs.Chain.{sound-short, above-next, ends-by-65}
 use Rattle.bounds.proofs.Enough.{root-alone}
 use Rattle.bounds.proofs.Quiet.{read-quiet, read-answers, leaf-seen}
-use Rattle.arrays.proofs.Base.{Base, asked-parent}
 use Rattle.seek.specs.declared.Sought.{Sought}
 use Rattle.seek.specs.declared.Sought.the-variants.{Shared as Stays, Zero as Zeros, Absent, Moves, Stops}
 use Rattle.seek.specs.Seek.{movesOf, absentOf, climbsOf, hereBy, hereOf, seek, seekBy, seekPage}
 use Rattle.shows.specs.Shows.{ReadAs, Sees}
 use Rattle.shows.proofs.Steps.{Carries, Finds, Found, step-finds}
+use Rattle.logic.proofs.Laws.{true-not}
+use Rattle.lookups.proofs.Chain.{sound-short, above-next, ends-by-65}
+use Rattle.lookups.proofs.Base.{Base, asked-parent}
 
 module _ (L : ℕ) (p : Pool) (sound : Sound L p) where
   abbrev F : ℕ

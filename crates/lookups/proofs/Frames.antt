@@ -19,10 +19,10 @@ use Rattle.entry.specs.declared.Slot.the-variants.{Held}
 use Rattle.entry.specs.Entry.{taggedOf}
 use Rattle.frames.specs.Frames.{idleOf, oneIdle, freeCount, freeFrameIn}
 use Rattle.sound.specs.Facts.{Hidden, Holds, Stands, Entries}
-use Rattle.isolation.proofs.Pass.{held-one, Place, place}
-use Rattle.isolation.proofs.Pass.Place.{there, elsewhere}
-use Rattle.isolation.proofs.Table.{Wrote, others}
-use Rattle.isolation.proofs.Rows.{Rows, Fit, either, rows-wrote, rows-of, Loose}
+use Rattle.lookups.proofs.Spots.{held-one, Spot, spot}
+use Rattle.lookups.proofs.Spots.Spot.{there, elsewhere}
+use Rattle.lookups.proofs.Table.{Wrote, others}
+use Rattle.lookups.proofs.Rows.{Rows, Fit, either, rows-wrote, rows-of, Loose}
 
 -- a search finds what it looks for, or there is none
 
@@ -140,12 +140,12 @@ module _ {N P P′ U : List ℕ} {h q g : ℕ} {s : PageState} {t : PageStateTag
   before n i u y = either w n i u y (λ a b z. (s, rw (a, b) x, ap (λ (v : PageState). v .frame) (held-one z))) (λ ne z. (u, z, refl))
 
   still-stands : (f : ℕ) → Stands P f → Stands P′ f
-  still-stands f a = by (place (a .node) (a .page) h q)
+  still-stands f a = by (spot (a .node) (a .page) h q)
     where
       frame-is : (v : PageState) → Held v ≡ Held s → v .frame ≡ s .frame
       frame-is v z = rw (held-one z)
 
-      by : Place (a .node) (a .page) h q → Stands P′ f
+      by : Spot (a .node) (a .page) h q → Stands P′ f
       by (there c d) = record { node = h; page = q; state = taggedOf s t; holds = w .same; frame = sym (frame-is (a .state) (sym (a .holds) ∙ (rw (c, d) x))) ∙ a .frame }
       by (elsewhere ne) = record { node = a .node; page = a .page; state = a .state; holds = others w (a .node) (a .page) ne ∙ a .holds; frame = a .frame }
 
@@ -164,3 +164,21 @@ module _ {N P P′ U : List ℕ} {h q g : ℕ} {s : PageState} {t : PageStateTag
         taken = e .taken;
         nowhere = λ n i u y d. let a = before n i u y in e .nowhere n i (a .0) (a .1) (a .2 ∙ d);
       }
+
+-- a free frame taken and given back leaves as many free
+
+back-same : (U : List ℕ) (g j : ℕ) → Idle U g → getD (set (set U g 1) g 0) j 0 ≡ getD U j 0
+back-same U g j i =
+    let a = length-set U g 1 in
+    let b = i .below in
+    split (equal j g)
+    (λ e. rw e (getD-set-same (set U g 1) g 0 0 (omega arith) ∙ sym (i .flag)))
+    (λ ne. getD-set-other (set U g 1) g j 0 0 ne ∙ getD-set-other U g j 1 0 ne)
+
+back-idle : (U : List ℕ) (g j : ℕ) → Idle U g → oneIdle (set (set U g 1) g 0) j ≡ oneIdle U j
+unfolding oneIdle idleOf
+back-idle U g j i = rw (back-same U g j i, length-set (set U g 1) g 0, length-set U g 1)
+
+pub back-free : (U : List ℕ) (g : ℕ) → freeFrameIn U ≡ At g → freeCount (set (set U g 1) g 0) ≡ freeCount U
+unfolding freeCount
+back-free U g e = sum-agree (oneIdle (set (set U g 1) g 0)) (oneIdle U) 1024 (λ j l. back-idle U g j (free-idle U g e))

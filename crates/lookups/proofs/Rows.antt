@@ -14,9 +14,9 @@ use Rattle.entry.specs.Entry.{entryWord, newState}
 use Rattle.tables.specs.Tables.{nodeOf, entryOf, slotAt}
 use Rattle.sound.specs.Facts.{Hidden, Holds, pinsOf, Stands, Entries}
 use Rattle.soundness.proofs.Sums.{sum-le}
-use Rattle.isolation.proofs.Pass.{held-one, held-not, Place, place}
-use Rattle.isolation.proofs.Pass.Place.{there, elsewhere}
-use Rattle.isolation.proofs.Table.{Wrote, others}
+use Rattle.lookups.proofs.Spots.{held-one, held-not, Spot, spot}
+use Rattle.lookups.proofs.Spots.Spot.{there, elsewhere}
+use Rattle.lookups.proofs.Table.{Wrote, others}
 
 -- the facts of single entries and rows, in a pool of F frames
 
@@ -44,24 +44,24 @@ no-pins N F c r (Held s) fit = fit s refl .pins
 -- what holds of each entry before and of the new one holds of each after
 module _ {P P′ : List ℕ} {c r : ℕ} {y : Slot} (w : Wrote P P′ c r y) where
   pub either : {A : Type 0} (n i : ℕ) (s : PageState) → Holds P′ n i s → (n ≡ c → i ≡ r → y ≡ Held s → A) → ((n ≡ c → i ≡ r → ⊥) → Holds P n i s → A) → A
-  either {A} n i s h f g = by (place n i c r)
+  either {A} n i s h f g = by (spot n i c r)
     where
-      by : Place n i c r → A
+      by : Spot n i c r → A
       by (there a b) = f a b (sym (w .same) ∙ (rw (a, b) at h))
       by (elsewhere ne) = g ne (sym (others w n i ne) ∙ h)
 
   either-empty : {A : Type 0} (n i : ℕ) → slotAt P′ n i ≡ Empty → (n ≡ c → i ≡ r → y ≡ Empty → A) → ((n ≡ c → i ≡ r → ⊥) → slotAt P n i ≡ Empty → A) → A
-  either-empty {A} n i h f g = by (place n i c r)
+  either-empty {A} n i h f g = by (spot n i c r)
     where
-      by : Place n i c r → A
+      by : Spot n i c r → A
       by (there a b) = f a b (sym (w .same) ∙ (rw (a, b) at h))
       by (elsewhere ne) = g ne (sym (others w n i ne) ∙ h)
 
   module _ (N : List ℕ) (F : ℕ) (o : Rows N P F) (fit : (s : PageState) → y ≡ Held s → Fit N F c r s) where
     pins-less : (n i : ℕ) → pinsOf (slotAt P′ n i) ≤ pinsOf (slotAt P n i)
-    pins-less n i = by (place n i c r)
+    pins-less n i = by (spot n i c r)
       where
-        by : Place n i c r → pinsOf (slotAt P′ n i) ≤ pinsOf (slotAt P n i)
+        by : Spot n i c r → pinsOf (slotAt P′ n i) ≤ pinsOf (slotAt P n i)
         by (there a b) = let q = no-pins N F c r y fit in let e : pinsOf (slotAt P′ n i) ≡ 0 = rw (a, b, w .same) q in omega arith
         by (elsewhere ne) = rw (others w n i ne) (omega arith)
 

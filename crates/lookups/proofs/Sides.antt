@@ -12,7 +12,7 @@ use Rattle.node.specs.declared.Node.{Node}
 use Rattle.node.specs.declared.Side.{Side}
 use Rattle.node.specs.Node.{hiddenOf, sideBy, sideOf}
 use Rattle.notices.specs.Notices.{childOf}
-use Rattle.lookup.specs.Lookup.{other}
+use Rattle.lookup.specs.Mode.{other}
 
 pub data Sided (x : Node) (c : ℕ) : Type 0 where
   is-left : x .left ≡ c + 1 → sideOf x c ≡ sideBy LeftSplit (x .right) → Sided x c

@@ -2,7 +2,7 @@
 use mathlib.Core.Path.{_≡_, sym, ap, _∙_}
 use mathlib.Core.Bool.{true, _&&_, not}
 use mathlib.Core.List.{List}
-use Prim.Native.Nat.{ℕ, suc, _+_, _-_, _<_}
+use Prim.Native.Nat.{_≤_, ℕ, suc, _+_, _-_, _<_}
 use native.Mathlib.Omega.{arith}
 use lib.Dec.{eqb}
 use lib.ListN.{length, getD, set, length-set}
@@ -13,11 +13,11 @@ use Rattle.logic.proofs.Laws.{and-left, and-right}
 use Rattle.node.specs.declared.Node.{Node}
 use Rattle.node.specs.Node.{outOf}
 use Rattle.tables.specs.Tables.{nodeOf}
-use Rattle.lookup.specs.Lookup.{asksOf}
+use Rattle.lookup.specs.Mode.{asksBy}
 use Rattle.sound.specs.Facts.{Live, Hidden, Tree, Entries}
 use Rattle.soundness.proofs.Records.{node-out}
-use Rattle.soundness.proofs.Chains.{rank, rank-up}
-use Rattle.isolation.proofs.Frames.{Idle}
+use Rattle.soundness.proofs.Chains.{rank, rank-up, rank-most}
+use Rattle.lookups.proofs.Frames.{Idle}
 
 pub record Base (N : List ℕ) : Type 0 where
   pub next : ℕ
@@ -25,7 +25,7 @@ pub record Base (N : List ℕ) : Type 0 where
   pub tree : Tree N next
 
 module _ (N : List ℕ) (B : Base N) where
-  live-low : (n : ℕ) → Live N n → n < 64
+  pub live-low : (n : ℕ) → Live N n → n < 64
   live-low n live = split (less n 64) (λ l. l) (λ out. absurd (live (ap (λ (r : Node). r .kind) (node-out N (B .len) n (omega arith)))))
 
   inside-by : (n h : ℕ) → nodeOf N n .parent ≡ h + 1 → h < 64
@@ -34,6 +34,10 @@ module _ (N : List ℕ) (B : Base N) where
   -- how many nodes a chain has
   pub depth : ℕ → ℕ
   depth n = rank N (B .len) inside-by (B .tree .chains) n
+
+  pub depth-most : (n : ℕ) → depth n ≤ 64
+  unfolding depth
+  depth-most n = rank-most N (B .len) inside-by (B .tree .chains) n
 
   pub deeper : (n h : ℕ) → nodeOf N n .parent ≡ h + 1 → depth n ≡ suc (depth h)
   unfolding depth
@@ -46,21 +50,19 @@ module _ (N : List ℕ) (B : Base N) where
   pub node-low : (n i : ℕ) → i < nodeOf N n .size → n < 64
   node-low n i l = live-low n (λ z. let q = ap (λ (r : Node). r .size) (B .tree .blank n z) in omega arith)
 
-  pub asked-parent : (n i : ℕ) → asksOf (nodeOf N n) i ≡ true → nodeOf N n .parent ≡ nodeOf N n .parent - 1 + 1
-  unfolding asksOf
+  -- a page that asks the parent has one
+  pub asked-parent : (n i : ℕ) → asksBy (nodeOf N n) (outOf (nodeOf N n) i) ≡ true → nodeOf N n .parent ≡ nodeOf N n .parent - 1 + 1
   asked-parent n i a =
       let x = not (eqb (nodeOf N n .parent) 0) in
-      let y = not (outOf (nodeOf N n) i) in
-      let q = eqb-false (nodeOf N n .parent) 0 (not-true _ (and-left x y (and-left (x && y) _ a))) in
+      let q = eqb-false (nodeOf N n .parent) 0 (not-true _ (and-left x _ a)) in
       omega arith
 
-  -- a page of a hidden node that asks lies below its size
-  pub asked-low : (n i : ℕ) → Hidden N n → asksOf (nodeOf N n) i ≡ true → i < nodeOf N n .size
-  unfolding asksOf outOf
+  -- and of a hidden node it lies below its size
+  pub asked-low : (n i : ℕ) → Hidden N n → asksBy (nodeOf N n) (outOf (nodeOf N n) i) ≡ true → i < nodeOf N n .size
+  unfolding outOf
   asked-low n i h a =
       let x = not (eqb (nodeOf N n .parent) 0) in
-      let y = not (outOf (nodeOf N n) i) in
-      let o = not-true (outOf (nodeOf N n) i) (and-right x y (and-left (x && y) _ a)) in
+      let o = not-true (outOf (nodeOf N n) i) (and-right x _ a) in
       leb-false (nodeOf N n .size) i (rw (eq-eqb (nodeOf N n .kind) 3 h) at o)
 
 -- flags that read the same

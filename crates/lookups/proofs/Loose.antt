@@ -12,12 +12,12 @@ use Rattle.notices.specs.Notices.{Told}
 use Rattle.lookup.specs.declared.Looked.{Looked}
 use Rattle.lookup.specs.declared.Looked.the-variants.{Shared, Zero, Own, New, NoMemory, Stopped}
 use Rattle.lookup.specs.Work.{Work, Looking}
-use Rattle.lookup.specs.Lookup.{withTold, kept}
+use Rattle.lookup.specs.Level.{withTold, kept}
 use Rattle.sound.specs.Facts.{Hidden, Holds}
-use Rattle.isolation.proofs.Table.{Wrote, others, wrote-state}
-use Rattle.isolation.proofs.Rows.{Loose, put-in}
-use Rattle.isolation.proofs.State.{Ok}
-use Rattle.arrays.proofs.Base.{Base, depth, page-low, node-low}
+use Rattle.lookups.proofs.Table.{Wrote, others, wrote-state}
+use Rattle.lookups.proofs.Rows.{Loose, put-in}
+use Rattle.lookups.proofs.Ok.{Ok}
+use Rattle.lookups.proofs.Base.{Base, depth, page-low, node-low}
 
 module _ (N : List ℕ) (B : Base N) (L F : ℕ) where
   -- frame f, in use, is on its way to an entry
