@@ -7,10 +7,9 @@ use lib.ListN.{length, getD}
 use Rattle.logic.specs.Below.{copied, zeroed}
 use Rattle.logic.proofs.Laws.{copied-length, copied-outside, zeroed-length}
 use Rattle.logic.proofs.Means.{less, split}
-use Rattle.tables.specs.Tables.{entryOf}
+use Rattle.tables.specs.Tables.{entryOf, rowMoved}
 use Rattle.soundness.proofs.Records.{entry-is, entry-past}
 use Rattle.isolation.proofs.Bytes.{zeroed-outside, zeroed-inside, copied-inside}
-use Rattle.tables.specs.Tables.{rowMoved}
 use Rattle.births.proofs.Handed.{RowMoved}
 
 module _ (P : List ℕ) (n x : ℕ) (len : length P ≡ 4096) (n-low : n < 64) (x-low : x < 64) (ne : x ≡ n → ⊥) where

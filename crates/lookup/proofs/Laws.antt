@@ -21,7 +21,8 @@ use Rattle.node.specs.declared.Side.{Side}
 use Rattle.node.specs.Node.{hiddenOf, windowOf, outOf, sideOf}
 use Rattle.tables.specs.Tables.{nodeOf, slotAt, withState, withoutState}
 use Rattle.frames.specs.Frames.{freeFrameIn, takenOf, givenOf, clearedAt, copiedAt}
-use Rattle.notices.specs.Notices.{Told, toldOf, tellObject, childOf, rangeChange}
+use Rattle.outcome.specs.Told.{Told, toldOf}
+use Rattle.notices.specs.Notices.{tellObject, childOf, rangeChange}
 use Rattle.lookup.specs.declared.Looked.{Looked}
 use Rattle.lookup.specs.declared.Looked.the-variants.{Shared, Zero, Own, New, NoMemory, Stopped}
 use Rattle.lookup.specs.Work.{Work, workOf, Looking, lookingOf}

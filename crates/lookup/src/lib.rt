@@ -9,7 +9,7 @@ ghost use mathlib.Core.List.{List};
 ghost use Prim.Native.Nat.{ℕ, _<_};
 ghost use Rattle.entry.specs.Entry.{newState};
 ghost use Rattle.tables.specs.Tables.{slotAt, withState};
-ghost use Rattle.notices.specs.Notices.{toldOf};
+ghost use Rattle.outcome.specs.Told.{toldOf};
 ghost use Rattle.lookup.specs.Work.{workOf, lookingOf};
 ghost use Rattle.lookup.specs.Lookup.{asksOf, fresh, part, otherTold, shareOr, hiddenStep, leafTold, settle, handedBy, holdsOf, look};
 
