@@ -12,13 +12,13 @@ use Rattle.tables.specs.Pool.{Pool}
 use Rattle.tables.specs.Tables.{nodeOf}
 use Rattle.sound.specs.Sound.{sound}
 use Rattle.sound.specs.Facts.{Leaf}
-use Rattle.pool.specs.declared.answer.Refusal.{Refusal}
-use Rattle.pool.specs.declared.answer.Refusal.the-variants.{NoObject}
-use Rattle.pool.specs.declared.answer.Against.{Against}
-use Rattle.pool.specs.declared.answer.Against.the-variants.{Why, Nothing as Fine}
-use Rattle.pool.specs.Answers.{unless}
+use Rattle.outcome.specs.declared.answer.Refusal.{Refusal}
+use Rattle.outcome.specs.declared.answer.Refusal.the-variants.{NoObject}
+use Rattle.outcome.specs.declared.answer.Against.{Against}
+use Rattle.outcome.specs.declared.answer.Against.the-variants.{Why, Nothing as Fine}
+use Rattle.outcome.specs.Answers.{unless}
 use Rattle.pool.specs.Calls.{findObject, atNode, onNode}
-use Rattle.commit.specs.Noted.{roomOf}
+use Rattle.outcome.specs.Room.{roomOf}
 use Rattle.ranges.specs.Ranges.{insideOf, cachedOf, againstReading, againstWriting, againstCommitting}
 use Rattle.arrays.specs.Calls.{ByTests, Called}
 use Rattle.arrays.specs.Calls.Called.{refused, accepted}

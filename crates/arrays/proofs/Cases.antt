@@ -12,8 +12,8 @@ use Rattle.blocks.specs.Blocks.{pagesOf, blockEnd, nextBy, nextOf, countOf}
 use Rattle.frames.specs.Frames.{idleOf, oneIdle, freeCount, freeFrameIn, pastedAt, blankAt, clearedAt}
 use Rattle.notices.specs.Notices.{childOf}
 use Rattle.lookup.specs.Lookup.{asksOf, cleared, freshBy, fresh, leafTold, settleBy, settle, handedBy, enter, look}
-use Rattle.pool.specs.declared.answer.Answer.the-variants.{Refused}
-use Rattle.pool.specs.declared.answer.Refusal.the-variants.{NoMemory}
+use Rattle.outcome.specs.declared.answer.Answer.the-variants.{Refused}
+use Rattle.outcome.specs.declared.answer.Refusal.the-variants.{NoMemory}
 use Rattle.page.specs.Each.{onward, each}
 use Rattle.page.specs.Pages.{storedBy, wrotePage, writeBy, writePage, readOf, fetchedBy, lookRead, readThrough, readBy, readPage}
 use Rattle.ranges.specs.Ranges.{Ranging, rangedBy, writeRange, written, writeThrough, filled, readRange}

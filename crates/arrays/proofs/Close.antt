@@ -7,7 +7,7 @@ use native.Mathlib.Numerals.{add-one}
 use Rattle.tables.specs.Pool.{Pool}
 use Rattle.lookup.specs.Work.{Work}
 use Rattle.frames.specs.Frames.{freeCount}
-use Rattle.pool.specs.declared.answer.Against.{Against}
+use Rattle.outcome.specs.declared.answer.Against.{Against}
 use Rattle.ranges.specs.Ranges.{rangedBy}
 use Rattle.arrays.specs.Outcomes.{Granted, Short}
 use Rattle.arrays.proofs.Spent.{sum, needs-grow, Out, Ending}

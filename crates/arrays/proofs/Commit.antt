@@ -14,8 +14,8 @@ use Rattle.lookup.specs.declared.Looked.the-variants.{Shared, Zero, Own, New, N
 use Rattle.lookup.specs.Work.{Work, lookingOf}
 use Rattle.lookup.specs.Lookup.{look}
 use Rattle.sound.specs.Facts.{Leaf}
-use Rattle.pool.specs.declared.answer.Against.{Against}
-use Rattle.pool.specs.declared.answer.Against.the-variants.{Nothing as Fine}
+use Rattle.outcome.specs.declared.answer.Against.{Against}
+use Rattle.outcome.specs.declared.answer.Against.the-variants.{Nothing as Fine}
 use Rattle.page.specs.Each.{Part, partOf}
 use Rattle.page.specs.Pages.{againstWrite, restBy, committedPage, commitPage}
 use Rattle.ranges.specs.Ranges.{workIn, rangedBy, commitRange, committed, commitThrough}

@@ -1,7 +1,7 @@
 -- What holds before each page and what it leads to hold of a whole run of pages. Assumes nothing.
 use Prim.Native.Nat.{ℕ, zero, suc}
-use Rattle.pool.specs.declared.answer.Against.{Against}
-use Rattle.pool.specs.declared.answer.Against.the-variants.{Why, Nothing as Fine}
+use Rattle.outcome.specs.declared.answer.Against.{Against}
+use Rattle.outcome.specs.declared.answer.Against.the-variants.{Why, Nothing as Fine}
 use Rattle.page.specs.Each.{Part, partOf, onward, each}
 
 -- before holds with so many pages to come; after holds at the end, or where a page was refused

@@ -15,17 +15,17 @@ use Rattle.blocks.specs.Blocks.{nextOf}
 use Rattle.node.specs.Node.{leafOf}
 use Rattle.tables.specs.Pool.{Pool}
 use Rattle.tables.specs.Tables.{nodeOf}
-use Rattle.notices.specs.Notices.{toldOf}
+use Rattle.outcome.specs.Told.{toldOf}
 use Rattle.lookup.specs.declared.Looked.{Looked}
 use Rattle.lookup.specs.Work.{workOf}
 use Rattle.sound.specs.Sound.{sound}
 use Rattle.sound.specs.Facts.{Leaf, Sound}
-use Rattle.pool.specs.declared.answer.Answer.the-variants.{Done, Refused}
-use Rattle.pool.specs.declared.answer.Refusal.{Refusal}
-use Rattle.pool.specs.declared.answer.Refusal.the-variants.{BadPool}
-use Rattle.pool.specs.declared.answer.Against.{Against}
-use Rattle.pool.specs.declared.answer.Against.the-variants.{Why, Nothing as Fine}
-use Rattle.pool.specs.Answers.{unless}
+use Rattle.outcome.specs.declared.answer.Answer.the-variants.{Done, Refused}
+use Rattle.outcome.specs.declared.answer.Refusal.{Refusal}
+use Rattle.outcome.specs.declared.answer.Refusal.the-variants.{BadPool}
+use Rattle.outcome.specs.declared.answer.Against.{Against}
+use Rattle.outcome.specs.declared.answer.Against.the-variants.{Why, Nothing as Fine}
+use Rattle.outcome.specs.Answers.{unless}
 use Rattle.pool.specs.Calls.{findObject, atNode, onNode}
 use Rattle.page.specs.Pages.{againstRead, Read, readOf, lookRead, readThrough, readBy, readPage}
 use Rattle.ranges.specs.Ranges.{Filled, filled, unfilled, againstReading, readRange, readAt, read}

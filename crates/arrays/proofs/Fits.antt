@@ -16,14 +16,14 @@ use Rattle.blocks.proofs.Cut.{none}
 use Rattle.tables.specs.Pool.{Pool}
 use Rattle.tables.specs.Tables.{nodeOf}
 use Rattle.frames.specs.Frames.{pastedAt}
-use Rattle.notices.specs.Notices.{Told}
+use Rattle.outcome.specs.Told.{Told}
 use Rattle.lookup.specs.declared.Looked.{Looked}
 use Rattle.lookup.specs.declared.Looked.the-variants.{Shared, Zero, Own, New, NoMemory, Stopped}
 use Rattle.lookup.specs.Work.{Work, workOf}
 use Rattle.lookup.specs.Lookup.{look}
 use Rattle.sound.specs.Facts.{Leaf, Sound}
-use Rattle.pool.specs.declared.answer.Against.{Against}
-use Rattle.pool.specs.declared.answer.Against.the-variants.{Why, Nothing as Fine}
+use Rattle.outcome.specs.declared.answer.Against.{Against}
+use Rattle.outcome.specs.declared.answer.Against.the-variants.{Why, Nothing as Fine}
 use Rattle.page.specs.Each.{partOf}
 use Rattle.page.specs.Pages.{againstWrite, againstRead, restBy, storedBy, wrotePage, writeBy, writePage, committedPage, commitPage, Read, lookRead, readThrough, readBy, readPage}
 use Rattle.ranges.specs.Ranges.{readRange, writeRange, commitRange}

@@ -9,13 +9,14 @@ use lib.Dec.{leb}
 use borrow.Author.Tests.{leb-false}
 use Rattle.tables.specs.Pool.{Pool}
 use Rattle.tables.specs.Tables.{nodeOf}
-use Rattle.notices.specs.Notices.{toldOf}
+use Rattle.outcome.specs.Told.{toldOf}
 use Rattle.lookup.specs.declared.Looked.{Looked}
 use Rattle.lookup.specs.declared.Looked.the-variants.{Shared, Zero, Own, New, NoMemory, Stopped}
 use Rattle.lookup.specs.Work.{Work, workOf, lookingOf}
 use Rattle.lookup.specs.Lookup.{look}
 use Rattle.sound.specs.Facts.{Leaf}
-use Rattle.commit.specs.Noted.{Said, refusedOf, roomOf}
+use Rattle.commit.specs.Noted.{Said, refusedOf}
+use Rattle.outcome.specs.Room.{roomOf}
 use Rattle.commit.specs.Commit.{pageRefusal, committed, commitAt, commitPage}
 use Rattle.isolation.specs.Private.{Private}
 use Rattle.isolation.specs.Kept.{poolWith, workIn, Answers}

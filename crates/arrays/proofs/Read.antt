@@ -12,14 +12,14 @@ use Rattle.blocks.specs.Blocks.{iterOf, countOf}
 use Rattle.tables.specs.Pool.{Pool}
 use Rattle.tables.specs.Tables.{nodeOf}
 use Rattle.frames.specs.Frames.{pastedAt, blankAt}
-use Rattle.notices.specs.Notices.{toldOf}
+use Rattle.outcome.specs.Told.{toldOf}
 use Rattle.lookup.specs.declared.Looked.{Looked}
 use Rattle.lookup.specs.declared.Looked.the-variants.{Shared, Zero, Own, New, NoMemory, Stopped}
 use Rattle.lookup.specs.Work.{Work, workOf, lookingOf}
 use Rattle.lookup.specs.Lookup.{look}
 use Rattle.sound.specs.Facts.{Leaf}
-use Rattle.pool.specs.declared.answer.Against.{Against}
-use Rattle.pool.specs.declared.answer.Against.the-variants.{Nothing as Fine}
+use Rattle.outcome.specs.declared.answer.Against.{Against}
+use Rattle.outcome.specs.declared.answer.Against.the-variants.{Nothing as Fine}
 use Rattle.page.specs.Each.{Part, partOf}
 use Rattle.page.specs.Pages.{againstRead, fetchedBy, restBy, Read, readOf, lookRead, readThrough, readBy, readPage}
 use Rattle.ranges.specs.Ranges.{readRange, filled}

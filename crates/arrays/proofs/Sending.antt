@@ -12,16 +12,16 @@ use Rattle.blocks.specs.declared.Next.{Next}
 use Rattle.blocks.specs.declared.Next.the-variants.{Block, Done}
 use Rattle.blocks.specs.Blocks.{nextOf}
 use Rattle.tables.specs.Pool.{Pool}
-use Rattle.notices.specs.declared.Notice.{Notice}
-use Rattle.notices.specs.Notices.{Told}
+use Rattle.outcome.specs.declared.notice.Notice.{Notice}
+use Rattle.outcome.specs.Told.{Told}
 use Rattle.lookup.specs.declared.Looked.{Looked}
 use Rattle.lookup.specs.declared.Looked.the-variants.{Shared, Zero, Own, New, NoMemory, Stopped}
 use Rattle.lookup.specs.Work.{Work, workOf, Looking}
 use Rattle.lookup.specs.Lookup.{withTold}
 use Rattle.sound.specs.Facts.{Leaf, Sound}
-use Rattle.pool.specs.declared.answer.Against.{Against}
-use Rattle.pool.specs.declared.answer.Against.the-variants.{Why, Nothing as Fine}
-use Rattle.commit.specs.Noted.{liveCount}
+use Rattle.outcome.specs.declared.answer.Against.{Against}
+use Rattle.outcome.specs.declared.answer.Against.the-variants.{Why, Nothing as Fine}
+use Rattle.outcome.specs.Room.{liveCount}
 use Rattle.page.specs.Each.{Part, partOf, onward, each}
 use Rattle.page.specs.Pages.{againstWrite, restBy, storedBy, wrotePage, writeBy, writePage, committedPage, commitPage}
 use Rattle.bounds.specs.Telling.{putAll}

@@ -15,7 +15,7 @@ use Rattle.entry.specs.Entry.{splitOf, taggedOf}
 use Rattle.node.specs.Node.{hiddenOf, windowOf, sideOf}
 use Rattle.tables.specs.Tables.{nodeOf}
 use Rattle.frames.specs.Frames.{freeFrameIn}
-use Rattle.notices.specs.Notices.{Told}
+use Rattle.outcome.specs.Told.{Told}
 use Rattle.lookup.specs.declared.Looked.the-variants.{Own}
 use Rattle.lookup.specs.Work.{Work, lookingOf}
 use Rattle.lookup.specs.Lookup.{withTold, without, partBy, part, other, otherTold, shareOr, hiddenStep, leafTold, settleBy, settle}

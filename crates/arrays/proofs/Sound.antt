@@ -7,12 +7,12 @@ use native.Mathlib.Omega.{arith}
 use lib.ListN.{length}
 use Rattle.tables.specs.Pool.{Pool}
 use Rattle.tables.specs.Tables.{nodeOf}
-use Rattle.notices.specs.Notices.{toldOf}
+use Rattle.outcome.specs.Told.{toldOf}
 use Rattle.lookup.specs.Work.{Work, workOf}
 use Rattle.lookup.specs.Lookup.{look}
 use Rattle.sound.specs.Sound.{sound}
 use Rattle.sound.specs.Facts.{Sound}
-use Rattle.pool.specs.declared.answer.Refusal.{Refusal}
+use Rattle.outcome.specs.declared.answer.Refusal.{Refusal}
 use Rattle.commit.specs.Noted.{Said, refusedOf}
 use Rattle.commit.specs.Commit as One
 use Rattle.page.specs.Pages.{readOf}

@@ -8,9 +8,9 @@ use Rattle.logic.specs.Below.{sumBelow}
 use Rattle.tables.specs.Pool.{Pool}
 use Rattle.frames.specs.Frames.{freeCount}
 use Rattle.lookup.specs.Work.{Work, Looking}
-use Rattle.pool.specs.declared.answer.Against.{Against}
-use Rattle.pool.specs.declared.answer.Against.the-variants.{Why, Nothing as Fine}
-use Rattle.pool.specs.declared.answer.Refusal.the-variants.{NoMemory}
+use Rattle.outcome.specs.declared.answer.Against.{Against}
+use Rattle.outcome.specs.declared.answer.Against.the-variants.{Why, Nothing as Fine}
+use Rattle.outcome.specs.declared.answer.Refusal.the-variants.{NoMemory}
 use Rattle.isolation.specs.Private.{Private}
 use Rattle.isolation.specs.Need.{need}
 use Rattle.isolation.specs.Kept.{poolWith, Gives, Refuses, Kept}

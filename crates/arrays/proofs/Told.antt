@@ -15,20 +15,21 @@ use Rattle.blocks.specs.Blocks.{iterOf, countOf}
 use Rattle.node.specs.Node.{leafOf}
 use Rattle.tables.specs.Pool.{Pool}
 use Rattle.tables.specs.Tables.{nodeOf, freeNodeIn, freeNodeFrom}
-use Rattle.notices.specs.declared.Notice.{Notice}
-use Rattle.notices.specs.Notices.{Told, toldOf}
+use Rattle.outcome.specs.declared.notice.Notice.{Notice}
+use Rattle.outcome.specs.Told.{Told, toldOf}
 use Rattle.sound.specs.Sound.{sound}
 use Rattle.sound.specs.Facts.{Leaf, Sound}
 use Rattle.soundness.proofs.Soundness.{sound-facts}
 use Rattle.lookup.specs.Work.{Work}
 use Rattle.lookup.specs.Lookup.{withTold}
-use Rattle.pool.specs.declared.answer.Refusal as R
-use Rattle.pool.specs.declared.answer.Refusal.{Refusal}
-use Rattle.pool.specs.declared.answer.Against.{Against}
-use Rattle.pool.specs.declared.answer.Against.the-variants.{Why, Nothing as Fine}
-use Rattle.pool.specs.Answers.{unless}
+use Rattle.outcome.specs.declared.answer.Refusal as R
+use Rattle.outcome.specs.declared.answer.Refusal.{Refusal}
+use Rattle.outcome.specs.declared.answer.Against.{Against}
+use Rattle.outcome.specs.declared.answer.Against.the-variants.{Why, Nothing as Fine}
+use Rattle.outcome.specs.Answers.{unless}
 use Rattle.pool.specs.Calls.{findObject, atNode, onNode}
-use Rattle.commit.specs.Noted.{Said, refusedOf, liveCount, roomOf}
+use Rattle.commit.specs.Noted.{Said, refusedOf}
+use Rattle.outcome.specs.Room.{liveCount, roomOf}
 use Rattle.child.specs.Child.{born, againstChild, withBoth, withChild, numbered, childAt, createChild}
 use Rattle.page.specs.Each.{Part}
 use Rattle.page.specs.Pages.{writePage, commitPage}

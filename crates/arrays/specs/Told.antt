@@ -1,7 +1,7 @@
 -- What a call that asks for room says to the mappings, for every list.
 use mathlib.Core.List.{List}
 use Prim.Native.Nat.{ℕ}
-use Rattle.notices.specs.Notices.{toldOf}
+use Rattle.outcome.specs.Told.{toldOf}
 use Rattle.commit.specs.Noted.{Said}
 use Rattle.bounds.specs.Telling.{Wrote}
 use Rattle.bounds.specs.Calling.{LosesNone}

@@ -8,7 +8,7 @@ use borrow.Author.Tests.{leb-true}
 use Rattle.logic.specs.Pick.{pick}
 use Rattle.tables.specs.Pool.{Pool}
 use Rattle.sound.specs.Sound.{lengthsOk, sound}
-use Rattle.pool.specs.declared.answer.Refusal.the-variants.{InvalidArgs, BadPool}
+use Rattle.outcome.specs.declared.answer.Refusal.the-variants.{InvalidArgs, BadPool}
 use Rattle.pool.specs.Calls.{Call, refused, start, newLeaf, new, len}
 use Rattle.mapped.specs.Mapped.{appendAt, removeAt, appendMapping, removeMapping}
 use Rattle.forecast.specs.Forecast.{forecast}

@@ -12,11 +12,12 @@ use Rattle.logic.specs.declared.Found.{Found}
 use Rattle.logic.specs.declared.Found.the-variants.{At, Nothing}
 use Rattle.tables.specs.Pool.{Pool}
 use Rattle.tables.specs.Tables.{nodeOf, freeNodeIn, freeNodeFrom}
-use Rattle.pool.specs.declared.answer.Refusal as R
-use Rattle.pool.specs.declared.answer.Against.{Against}
-use Rattle.pool.specs.declared.answer.Against.the-variants.{Why, Nothing as Fine}
-use Rattle.pool.specs.Answers.{unless}
-use Rattle.commit.specs.Noted.{Said, refusedOf, roomOf}
+use Rattle.outcome.specs.declared.answer.Refusal as R
+use Rattle.outcome.specs.declared.answer.Against.{Against}
+use Rattle.outcome.specs.declared.answer.Against.the-variants.{Why, Nothing as Fine}
+use Rattle.outcome.specs.Answers.{unless}
+use Rattle.commit.specs.Noted.{Said, refusedOf}
+use Rattle.outcome.specs.Room.{roomOf}
 use Rattle.child.specs.Child.{born, againstChild, withBoth, withChild, numbered, childAt}
 use Rattle.sound.specs.Facts.{Leaf, Sound}
 use Rattle.isolation.specs.Private.{Private}

@@ -14,9 +14,9 @@ use Rattle.tables.specs.Tables.{nodeOf}
 use Rattle.sound.specs.Sound.{lengthsOk, sound}
 use Rattle.sound.specs.Facts.{Leaf, Sound}
 use Rattle.soundness.proofs.Soundness.{sound-facts, facts-sound}
-use Rattle.pool.specs.declared.answer.Answer.the-variants.{Done}
-use Rattle.pool.specs.declared.answer.Refusal.{Refusal}
-use Rattle.pool.specs.declared.answer.Refusal.the-variants.{InvalidArgs, BadPool, NoObject}
+use Rattle.outcome.specs.declared.answer.Answer.the-variants.{Done}
+use Rattle.outcome.specs.declared.answer.Refusal.{Refusal}
+use Rattle.outcome.specs.declared.answer.Refusal.the-variants.{InvalidArgs, BadPool, NoObject}
 use Rattle.pool.specs.Calls.{Call, callOf, refused, freshPool, start, newLeaf, new, findObject, atNode, onNode, len}
 use Rattle.mapped.specs.Mapped.{appendAt, removeAt, appendMapping, removeMapping}
 use Rattle.forecast.specs.Forecast.{forecast}

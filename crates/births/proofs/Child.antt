@@ -10,11 +10,10 @@ use Rattle.entry.specs.declared.Slot.{Slot}
 use Rattle.entry.specs.declared.Slot.the-variants.{Empty, Held}
 use Rattle.node.specs.declared.Node.{Node}
 use Rattle.tables.specs.Pool.{Pool, poolOf}
-use Rattle.tables.specs.Tables.{nodeOf, slotAt}
+use Rattle.tables.specs.Tables.{nodeOf, slotAt, rowMoved}
 use Rattle.sound.specs.Facts.{Tree, Sound}
 use Rattle.soundness.proofs.Records.{node-out}
 use Rattle.child.specs.Child.{bornNodes}
-use Rattle.tables.specs.Tables.{rowMoved}
 use Rattle.births.proofs.Cloned.{Cloned, leaf-live}
 use Rattle.births.proofs.Growth.{born-tree}
 use Rattle.births.proofs.Handed.{RowMoved, slots-rest, born-entries, born-mappings}

@@ -11,8 +11,8 @@ use Rattle.logic.proofs.Laws.{and-left, and-right}
 use Rattle.logic.proofs.Means.{most, split}
 use Rattle.blocks.specs.Blocks.{alignedOf}
 use Rattle.node.specs.declared.Node.{Node}
-use Rattle.pool.specs.declared.answer.Against.the-variants.{Why, Nothing as Fine}
-use Rattle.pool.specs.declared.answer.Refusal as R
+use Rattle.outcome.specs.declared.answer.Against.the-variants.{Why, Nothing as Fine}
+use Rattle.outcome.specs.declared.answer.Refusal as R
 use Rattle.child.specs.Child.{againstChild}
 
 -- whole pages that lie inside are no more than there are

@@ -7,9 +7,8 @@ use lib.ListN.{length, getD}
 use Rattle.logic.specs.Below.{copied, zeroed}
 use Rattle.logic.proofs.Laws.{copied-length, copied-outside, zeroed-length}
 use Rattle.logic.proofs.Means.{less, split}
-use Rattle.tables.specs.Tables.{entryOf}
+use Rattle.tables.specs.Tables.{entryOf, rowMoved}
 use Rattle.soundness.proofs.Records.{entry-is, entry-past}
-use Rattle.tables.specs.Tables.{rowMoved}
 use Rattle.births.proofs.Handed.{RowMoved}
 use Rattle.lookups.proofs.Bytes.{zeroed-outside, zeroed-inside, copied-inside}
 

@@ -19,7 +19,7 @@ use Rattle.node.specs.Node.{originNode}
 use Rattle.tables.specs.Pool.{Pool, poolOf}
 use Rattle.tables.specs.Tables.{withNode, slotAt, freeNodeIn}
 use Rattle.sound.specs.Facts.{Sound}
-use Rattle.pool.specs.declared.answer.Refusal.the-variants.{NoNode}
+use Rattle.outcome.specs.declared.answer.Refusal.the-variants.{NoNode}
 use Rattle.pool.specs.Calls.{Call, refused, leafAt, newLeaf}
 use Rattle.isolation.specs.Walk.{Near, View}
 use Rattle.isolation.specs.Walk.Near.{none, here, up}

@@ -9,7 +9,7 @@ use Rattle.logic.specs.Pick.{pick}
 use Rattle.logic.proofs.Laws.{and-left, and-right}
 use Rattle.tables.specs.Pool.{Pool}
 use Rattle.mappings.specs.Mappings.{append, removed}
-use Rattle.pool.specs.declared.answer.Answer.the-variants.{Done}
+use Rattle.outcome.specs.declared.answer.Answer.the-variants.{Done}
 use Rattle.pool.specs.Calls.{callOf}
 use Rattle.mapped.specs.declared.Shown.the-variants.{Pages, Bad}
 use Rattle.mapped.specs.Mapped.{withMappings, shownOf, appendBy, appendAt, removeAt}

@@ -8,10 +8,9 @@ use Rattle.entry.specs.declared.Slot.{Slot}
 use Rattle.logic.proofs.Means.{equal, split}
 use Rattle.node.specs.Node.{leafOf}
 use Rattle.tables.specs.Pool.{Pool}
-use Rattle.tables.specs.Tables.{nodeOf, slotAt}
+use Rattle.tables.specs.Tables.{nodeOf, slotAt, rowMoved}
 use Rattle.sound.specs.Facts.{Leaf, Tree, Sound}
 use Rattle.child.specs.Child.{bornNodes}
-use Rattle.tables.specs.Tables.{rowMoved}
 use Rattle.isolation.specs.Private.{linksOf, Shows, Private}
 use Rattle.isolation.proofs.Look.{ground}
 use Rattle.births.specs.Arrays.{cloneArray}

@@ -4,8 +4,8 @@ use Prim.Native.Nat.{ℕ}
 use Rattle.node.specs.Node.{leafOf}
 use Rattle.tables.specs.Pool.{Pool}
 use Rattle.tables.specs.Tables.{nodeOf}
-use Rattle.pool.specs.declared.answer.Answer.{Answer}
-use Rattle.pool.specs.declared.answer.Answer.the-variants.{Done, Refused}
+use Rattle.outcome.specs.declared.answer.Answer.{Answer}
+use Rattle.outcome.specs.declared.answer.Answer.the-variants.{Done, Refused}
 use Rattle.sound.specs.Facts.{Leaf}
 use Rattle.isolation.specs.Private.{Private}
 use Rattle.births.specs.Arrays.{blankArray, cloneArray}

@@ -14,16 +14,17 @@ use Rattle.logic.specs.declared.Found.the-variants.{At, Nothing}
 use Rattle.node.specs.Node.{leafOf}
 use Rattle.tables.specs.Pool.{Pool}
 use Rattle.tables.specs.Tables.{nodeOf}
-use Rattle.notices.specs.Notices.{Told, toldOf}
+use Rattle.outcome.specs.Told.{Told, toldOf}
 use Rattle.sound.specs.Sound.{sound}
 use Rattle.sound.specs.Facts.{Leaf, Sound}
 use Rattle.lookup.specs.declared.Looked.{Looked}
 use Rattle.lookup.specs.Work.{Work, workOf, Looking}
 use Rattle.lookup.specs.Lookup.{look}
-use Rattle.pool.specs.declared.answer.Answer.the-variants.{Refused}
-use Rattle.pool.specs.declared.answer.Refusal.the-variants.{NoRoom, BadPool}
+use Rattle.outcome.specs.declared.answer.Answer.the-variants.{Refused}
+use Rattle.outcome.specs.declared.answer.Refusal.the-variants.{NoRoom, BadPool}
 use Rattle.pool.specs.Calls.{findObject, atNode, onNode}
-use Rattle.commit.specs.Noted.{Said, notedOf, refusedOf, liveCount, roomOf}
+use Rattle.commit.specs.Noted.{Said, notedOf, refusedOf}
+use Rattle.outcome.specs.Room.{liveCount, roomOf}
 use Rattle.commit.specs.Commit.{lookedAnswer, pageRefusal, committed, commitAt, commitPage}
 use Rattle.logic.proofs.Means.{most, split}
 use Rattle.soundness.proofs.Soundness.{sound-facts}

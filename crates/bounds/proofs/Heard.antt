@@ -11,12 +11,13 @@ use Rattle.logic.specs.Pick.{pick}
 use Rattle.logic.specs.Below.{sumBelow}
 use Rattle.node.specs.Node.{hiddenOf}
 use Rattle.tables.specs.Tables.{nodeOf, mappingOf, numberOf}
-use Rattle.notices.specs.declared.Notice.{Notice}
+use Rattle.outcome.specs.declared.notice.Notice.{Notice}
 use Rattle.notices.specs.declared.Due.{Due}
 use Rattle.notices.specs.declared.Due.the-variants.{Notice as Tell, Nothing}
-use Rattle.notices.specs.Notices.{Told, overlapOf, tellDue, tellPlace, tellObject, lowIn, highIn, childOf, rangeChange}
+use Rattle.outcome.specs.Told.{Told}
+use Rattle.notices.specs.Notices.{overlapOf, tellDue, tellPlace, tellObject, lowIn, highIn, childOf, rangeChange}
 use Rattle.sound.specs.Facts.{Hidden, Tree}
-use Rattle.commit.specs.Noted.{liveOne}
+use Rattle.outcome.specs.Room.{liveOne}
 use Rattle.logic.proofs.Means.{equal, split}
 use Rattle.notices.proofs.Laws.{overlap-free}
 use Rattle.bounds.specs.Telling.{putAll}

@@ -8,7 +8,7 @@ use lib.Dec.{eqb}
 use Rattle.logic.specs.Pick.{pick}
 use Rattle.logic.specs.Below.{sumBelow}
 use Rattle.tables.specs.Tables.{mappingOf, numberOf}
-use Rattle.commit.specs.Noted.{liveOne, liveCount}
+use Rattle.outcome.specs.Room.{liveOne, liveCount}
 use Rattle.logic.proofs.Means.{less, split}
 use Rattle.soundness.proofs.Sums.{sum-le}
 

@@ -10,7 +10,8 @@ use Rattle.logic.specs.Pick.{pick}
 use Rattle.node.specs.Node.{hiddenOf}
 use Rattle.tables.specs.Pool.{Pool}
 use Rattle.tables.specs.Tables.{nodeOf}
-use Rattle.notices.specs.Notices.{Told, tellObject, lowIn, highIn, childOf, rangeChange}
+use Rattle.outcome.specs.Told.{Told}
+use Rattle.notices.specs.Notices.{tellObject, lowIn, highIn, childOf, rangeChange}
 use Rattle.sound.specs.Facts.{Hidden, Names, Tree, Sound}
 use Rattle.soundness.proofs.Ancestors.{above}
 use Rattle.lookups.proofs.Chain.{Short, sound-short, above-next}

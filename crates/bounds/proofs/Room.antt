@@ -7,11 +7,12 @@ use native.Mathlib.Omega.{arith}
 use lib.ListN.{length}
 use Rattle.tables.specs.Pool.{Pool}
 use Rattle.tables.specs.Tables.{nodeOf}
-use Rattle.notices.specs.Notices.{Told, tellObject, rangeChange}
+use Rattle.outcome.specs.Told.{Told}
+use Rattle.notices.specs.Notices.{tellObject, rangeChange}
 use Rattle.sound.specs.Facts.{Leaf, Sound}
 use Rattle.lookup.specs.Work.{Work, Looking}
 use Rattle.lookup.specs.Lookup.{withTold, look}
-use Rattle.commit.specs.Noted.{liveCount}
+use Rattle.outcome.specs.Room.{liveCount}
 use Rattle.bounds.specs.Telling.{Tells, Sends, Wrote, Added}
 use Rattle.bounds.proofs.Quiet.{leaf-seen}
 use Rattle.bounds.proofs.Adding.{wrote-in, all-wrote, all-added}

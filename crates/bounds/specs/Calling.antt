@@ -4,11 +4,11 @@ use mathlib.Core.List.{List}
 use mathlib.Core.Logic.{_⊎_}
 use Prim.Native.Nat.{ℕ, _/_, _≤_, _<_}
 use lib.ListN.{length}
-use Rattle.notices.specs.declared.Notice.{Notice}
-use Rattle.notices.specs.Notices.{toldOf}
-use Rattle.pool.specs.declared.answer.Answer.{Answer}
-use Rattle.pool.specs.declared.answer.Answer.the-variants.{Done, Refused}
-use Rattle.pool.specs.declared.answer.Refusal.the-variants.{NoRoom}
+use Rattle.outcome.specs.declared.notice.Notice.{Notice}
+use Rattle.outcome.specs.Told.{toldOf}
+use Rattle.outcome.specs.declared.answer.Answer.{Answer}
+use Rattle.outcome.specs.declared.answer.Answer.the-variants.{Done, Refused}
+use Rattle.outcome.specs.declared.answer.Refusal.the-variants.{NoRoom}
 use Rattle.commit.specs.Noted.{Said}
 use Rattle.bounds.specs.Telling.{Added}
 

@@ -13,13 +13,15 @@ use Rattle.blocks.specs.Blocks.{pagesOf, blockEnd, nextBy, nextOf, countOf}
 use Rattle.tables.specs.Pool.{Pool}
 use Rattle.tables.specs.Tables.{wordOf, withWord, recordOf, nodeOf, withFive, withNode, entryOf, slotAt, withEntry, withState, withoutState, rowMoved, mappingOf, numberOf, isFree, freeNodeIn, freeNodeFrom}
 use Rattle.frames.specs.Frames.{idleOf, oneIdle, freeCount, freeFrameIn, pastedAt, blankAt, clearedAt, copiedAt}
-use Rattle.notices.specs.Notices.{putNotice, overlapOf, tellPlace, tellObject, childOf, rangeChange, toldOf}
+use Rattle.outcome.specs.Told.{putNotice, toldOf}
+use Rattle.notices.specs.Notices.{overlapOf, tellPlace, tellObject, childOf, rangeChange}
 use Rattle.lookup.specs.Lookup.{asksOf, cleared, freshBy, fresh, partBy, part, otherTold, shareOr, hiddenStep, leafTold, settleBy, settle, handedBy, enter, look}
 use Rattle.sound.specs.Sound.{sound}
-use Rattle.pool.specs.declared.answer.Refusal.the-variants.{InvalidArgs}
+use Rattle.outcome.specs.declared.answer.Refusal.the-variants.{InvalidArgs}
 use Rattle.pool.specs.Calls as C
 use Rattle.pool.specs.Calls.{refused, leafAt, newLeaf, new, findObject, atNode, onNode}
-use Rattle.commit.specs.Noted.{refusedOf, liveOne, liveCount, roomOf}
+use Rattle.commit.specs.Noted.{refusedOf}
+use Rattle.outcome.specs.Room.{liveOne, liveCount, roomOf}
 use Rattle.child.specs.Child.{relinked, bornNodes, born, againstChild, withBoth, withChild, numbered, childAt}
 use Rattle.page.specs.Each.{onward, each}
 use Rattle.page.specs.Pages.{storedBy, wrotePage, writeBy, writePage, fetchedBy, lookRead, readThrough, readBy, readPage}

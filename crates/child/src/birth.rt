@@ -1,15 +1,24 @@
 // The child's birth, after the tests (paged.rs 775 to 836).
-use commit::Noted;
 use node::Node;
-use pool::Answer;
+use outcome::Answer;
+use outcome::Reply;
 ghost use mathlib.Core.Path.{_≡_};
-ghost use mathlib.Core.List.{List};
+ghost use mathlib.Core.List.{List, []};
 ghost use Prim.Native.Nat.{ℕ, _≤_, _<_};
 ghost use lib.ListN.{getD};
+ghost use Rattle.node.specs.Node.{lastOwner};
+ghost use Rattle.outcome.specs.Outcome.{outcome};
 ghost use Rattle.tables.specs.Pool.{poolOf};
-ghost use Rattle.notices.specs.Notices.{toldOf};
-ghost use Rattle.commit.specs.Noted.{notedOf};
 ghost use Rattle.child.specs.Child.{relinked, bornNodes, born};
+
+// A child of an object's node, the hidden node above both, and the child's pages: so many from first on.
+pub struct Birth {
+    pub node: u32,
+    pub child: u32,
+    pub hidden: u32,
+    pub first: u32,
+    pub pages: u32,
+}
 
 // The parent's link to the old child becomes one to the new, where there is a parent.
 fn relink(nodes: &mut [u32], parent: u32, old: u32, new: u32)
@@ -24,27 +33,19 @@ fn relink(nodes: &mut [u32], parent: u32, old: u32, new: u32)
 }
 
 // The four records: the child, the hidden node, its parent and the object.
-fn write_records(
-    nodes: &mut [u32],
-    node: u32,
-    child: u32,
-    hidden: u32,
-    first: u32,
-    pages: u32,
-    owner: u32,
-)
-    requires { ⌜ (node < 64) × (child < 64) × (hidden < 64) ⌝ }
-    ensures { λ _. ⌜ now (nodes .exit) ≡ bornNodes (now (nodes .entry)) node child hidden first pages owner ⌝ }
+fn write_records(nodes: &mut [u32], b: Birth, owner: u32)
+    requires { ⌜ (b .node < 64) × (b .child < 64) × (b .hidden < 64) ⌝ }
+    ensures { λ _. ⌜ now (nodes .exit) ≡ bornNodes (now (nodes .entry)) b owner ⌝ }
 {
-    let n = tables::node_at(nodes, node);
+    let n = tables::node_at(nodes, b.node);
     tables::set_node(
         nodes,
-        child,
-        Node::snapshot(hidden, first, pages, n.size, owner),
+        b.child,
+        Node::snapshot(b.hidden, b.first, b.pages, n.size, owner),
     );
-    tables::set_node(nodes, hidden, n.hidden_above(node, child));
-    relink(nodes, n.parent, node, hidden);
-    tables::set_node(nodes, node, n.below(hidden));
+    tables::set_node(nodes, b.hidden, n.hidden_above(b.node, b.child));
+    relink(nodes, n.parent, b.node, b.hidden);
+    tables::set_node(nodes, b.node, n.below(b.hidden));
 }
 
 // The records, the object's row to the hidden node, the next owner number, and RemoveWrite to the object's mappings.
@@ -54,33 +55,31 @@ pub fn bear(
     mappings: &[u32],
     head: &mut [u32],
     notices: &mut [u32],
-    node: u32,
-    child: u32,
-    hidden: u32,
-    first: u32,
-    count: u32,
-) -> Noted
-    requires { ⌜ (node < 64) × (child < 64) × (hidden < 64) × (getD (now head) 0 0 ≤ 16777215) ⌝ }
+    b: Birth,
+) -> Reply
+    requires { ⌜ (b .node < 64) × (b .child < 64) × (b .hidden < 64) × (getD (now head) 0 0 ≤ lastOwner) ⌝ }
     ensures { λ r. ⌜ ((used memory : List ℕ) →
-        notedOf (r .answer) (poolOf (now (nodes .exit)) (now (pages .exit)) used (now (mappings .entry)) (now (head .exit)) memory) (toldOf (now (notices .exit)) (r .count))
-        ≡ born (poolOf (now (nodes .entry)) (now (pages .entry)) used (now (mappings .entry)) (now (head .entry)) memory) (now (notices .entry)) node child hidden first count) ⌝ }
+        outcome r (poolOf (now (nodes .exit)) (now (pages .exit)) used (now (mappings .entry)) (now (head .exit)) memory) (now (notices .exit)) []
+        ≡ born (poolOf (now (nodes .entry)) (now (pages .entry)) used (now (mappings .entry)) (now (head .entry)) memory) (now (notices .entry)) b) ⌝ }
 {
     let owner = tables::at(head, 0);
-    write_records(nodes, node, child, hidden, first, count, owner);
-    tables::move_row(pages, node, hidden);
+    write_records(nodes, b, owner);
+    tables::move_row(pages, b.node, b.hidden);
     tables::put(head, 0, owner + 1);
     let told = notices::tell_object(
         mappings,
         notices,
         0,
-        node,
-        first,
-        count,
-        notices::REMOVE_WRITE,
+        b.node,
+        b.first,
+        b.pages,
+        outcome::REMOVE_WRITE,
     );
-    let answer = Answer::Done(child as u64);
-    Noted {
+    let answer = Answer::Done(b.child as u64);
+    Reply {
         answer,
+        done: 0,
+        taken: 0,
         count: told,
     }
 }

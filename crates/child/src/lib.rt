@@ -1,46 +1,33 @@
 // The call create_child (paged.rs 324 and 761 to 836): a snapshot of an object's pages, and a hidden node above both.
 mod birth;
 
-use commit::Noted;
+use birth::Birth;
 use logic::Found;
 use node::Node;
-use pool::Against;
-use pool::Refusal;
+use outcome::Against;
+use outcome::Refusal;
+use outcome::Reply;
+use pool::Entered;
 ghost use mathlib.Core.Path.{_≡_};
-ghost use mathlib.Core.List.{List};
-ghost use Prim.Native.Nat.{ℕ, _+_, _*_, _≤_, _<_};
-ghost use lib.Dec.{leb};
+ghost use mathlib.Core.List.{List, []};
+ghost use Prim.Native.Nat.{ℕ, _≤_, _<_};
 ghost use lib.ListN.{getD};
 ghost use Rattle.logic.specs.declared.Found.the-variants.{At};
+ghost use Rattle.node.specs.Node.{lastOwner};
+ghost use Rattle.outcome.specs.Outcome.{outcome};
 ghost use Rattle.tables.specs.Pool.{poolOf};
-ghost use Rattle.notices.specs.Notices.{toldOf};
-ghost use Rattle.commit.specs.Noted.{notedOf};
-ghost use Rattle.child.specs.Child.{againstChild, withChild, numbered, childAt, createChild};
+ghost use Rattle.child.specs.Child.{againstChild, withChild, numberChild, childAt, createChild};
 
-// 64 pages.
-const MAX_LEN: u64 = 262144;
-
-const LAST_OWNER: u32 = 16777215;
-
-// The range ends inside so many pages.
-fn fits(size: u32, offset: u64, len: u64) -> bool
-    requires { ⌜ len ≤ 262144 ⌝ }
-    ensures { λ r. ⌜ r ≡ leb (offset + len) (size * 4096) ⌝ }
-{
-    let end = size as u64 * 4096;
-    if end < offset {
-        return false;
-    }
-    offset + len <= end
-}
+// The largest length, in bytes.
+const MAX_LEN: u64 = Node::MAX_PAGES as u64 * 4096;
 
 // The arguments' shape, the object's policy and pins, then the range.
 fn against_child(n: Node, offset: u64, len: u64) -> Against
     ensures { λ r. ⌜ r ≡ againstChild 4096 n offset len ⌝ }
 {
     if blocks::page_aligned(offset) & blocks::page_aligned(len) & (len <= MAX_LEN) {
-        if (n.cache_policy == 0) & (n.pin_count == 0) {
-            if fits(n.size, offset, len) {
+        if n.is_cached() & (n.pin_count == 0) {
+            if n.contains(offset, len) {
                 return Against::Nothing;
             }
             return Against::Why(Refusal::OutOfRange);
@@ -61,32 +48,28 @@ fn with_child(
     child: u32,
     first: u32,
     count: u32,
-) -> Noted
-    requires { ⌜ (node < 64) × (child < 64) × (getD (now head) 0 0 ≤ 16777215) ⌝ }
+) -> Reply
+    requires { ⌜ (node < 64) × (child < 64) × (getD (now head) 0 0 ≤ lastOwner) ⌝ }
     ensures { λ r. ⌜ ((used memory : List ℕ) →
-        notedOf (r .answer) (poolOf (now (nodes .exit)) (now (pages .exit)) used (now (mappings .entry)) (now (head .exit)) memory) (toldOf (now (notices .exit)) (r .count))
+        outcome r (poolOf (now (nodes .exit)) (now (pages .exit)) used (now (mappings .entry)) (now (head .exit)) memory) (now (notices .exit)) []
         ≡ withChild (poolOf (now (nodes .entry)) (now (pages .entry)) used (now (mappings .entry)) (now (head .entry)) memory) (now (notices .entry)) node first count (At child)) ⌝ }
 {
     let found = tables::free_node_from(nodes, child + 1);
     match found {
         Found::At(hidden) => {
-            if commit::has_room(mappings, notices, 1) {
-                return birth::bear(
-                    nodes,
-                    pages,
-                    mappings,
-                    head,
-                    notices,
+            if outcome::has_room(mappings, notices, 1) {
+                let b = Birth {
                     node,
                     child,
                     hidden,
                     first,
-                    count,
-                );
+                    pages: count,
+                };
+                return birth::bear(nodes, pages, mappings, head, notices, b);
             }
-            return commit::refused(Refusal::NoRoom);
+            return Reply::refused(Refusal::NoRoom);
         }
-        Found::Nothing => return commit::refused(Refusal::NoNode),
+        Found::Nothing => return Reply::refused(Refusal::NoNode),
     }
 }
 
@@ -100,13 +83,13 @@ fn number_child(
     node: u32,
     first: u32,
     count: u32,
-) -> Noted
+) -> Reply
     requires { ⌜ node < 64 ⌝ }
     ensures { λ r. ⌜ ((used memory : List ℕ) →
-        notedOf (r .answer) (poolOf (now (nodes .exit)) (now (pages .exit)) used (now (mappings .entry)) (now (head .exit)) memory) (toldOf (now (notices .exit)) (r .count))
-        ≡ numbered (poolOf (now (nodes .entry)) (now (pages .entry)) used (now (mappings .entry)) (now (head .entry)) memory) (now (notices .entry)) node first count) ⌝ }
+        outcome r (poolOf (now (nodes .exit)) (now (pages .exit)) used (now (mappings .entry)) (now (head .exit)) memory) (now (notices .exit)) []
+        ≡ numberChild (poolOf (now (nodes .entry)) (now (pages .entry)) used (now (mappings .entry)) (now (head .entry)) memory) (now (notices .entry)) node first count) ⌝ }
 {
-    if tables::at(head, 0) <= LAST_OWNER {
+    if tables::at(head, 0) <= Node::LAST_OWNER {
         let found = tables::free_node(nodes);
         match found {
             Found::At(child) => {
@@ -122,10 +105,10 @@ fn number_child(
                     count,
                 );
             }
-            Found::Nothing => return commit::refused(Refusal::NoNode),
+            Found::Nothing => return Reply::refused(Refusal::NoNode),
         }
     }
-    commit::refused(Refusal::NoNode)
+    Reply::refused(Refusal::NoNode)
 }
 
 fn child_at(
@@ -137,15 +120,15 @@ fn child_at(
     node: u32,
     offset: u64,
     len: u64,
-) -> Noted
+) -> Reply
     requires { ⌜ node < 64 ⌝ }
     ensures { λ r. ⌜ ((used memory : List ℕ) →
-        notedOf (r .answer) (poolOf (now (nodes .exit)) (now (pages .exit)) used (now (mappings .entry)) (now (head .exit)) memory) (toldOf (now (notices .exit)) (r .count))
+        outcome r (poolOf (now (nodes .exit)) (now (pages .exit)) used (now (mappings .entry)) (now (head .exit)) memory) (now (notices .exit)) []
         ≡ childAt 4096 (poolOf (now (nodes .entry)) (now (pages .entry)) used (now (mappings .entry)) (now (head .entry)) memory) (now (notices .entry)) node offset len) ⌝ }
 {
     let against = against_child(tables::node_at(nodes, node), offset, len);
     match against {
-        Against::Why(why) => return commit::refused(why),
+        Against::Why(why) => return Reply::refused(why),
         Against::Nothing => {
             return number_child(
                 nodes,
@@ -173,19 +156,16 @@ pub fn create_child(
     object: u64,
     offset: u64,
     len: u64,
-) -> Noted
+) -> Reply
     ensures { λ r. ⌜
-        notedOf (r .answer) (poolOf (now (nodes .exit)) (now (pages .exit)) (now (used .entry)) (now (mappings .entry)) (now (head .exit)) (now (memory .entry))) (toldOf (now (notices .exit)) (r .count))
+        outcome r (poolOf (now (nodes .exit)) (now (pages .exit)) (now (used .entry)) (now (mappings .entry)) (now (head .exit)) (now (memory .entry))) (now (notices .exit)) []
         ≡ createChild 4096 (poolOf (now (nodes .entry)) (now (pages .entry)) (now (used .entry)) (now (mappings .entry)) (now (head .entry)) (now (memory .entry))) (now (notices .entry)) object offset len ⌝ }
 {
-    if sound::is_sound(nodes, pages, used, mappings, head, memory) {
-        let found = pool::find_object(nodes, object);
-        match found {
-            Found::At(node) => {
-                return child_at(nodes, pages, mappings, head, notices, node, offset, len);
-            }
-            Found::Nothing => return commit::refused(Refusal::NoObject),
+    let entered = pool::enter(nodes, pages, used, mappings, head, memory, object);
+    match entered {
+        Entered::At(node) => {
+            return child_at(nodes, pages, mappings, head, notices, node, offset, len);
         }
+        Entered::Refused(why) => return Reply::refused(why),
     }
-    commit::refused(Refusal::BadPool)
 }

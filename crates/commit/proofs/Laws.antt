@@ -1,25 +1,27 @@
 -- The ways through commit_page. Assumes nothing.
 use mathlib.Core.Path.{_≡_, sym, _∙_}
 use mathlib.Core.Bool.{Bool, true, false}
-use mathlib.Core.List.{List}
+use mathlib.Core.List.{List, []}
 use Prim.Native.Nat.{ℕ, _*_, _%_, _≤_, _<_}
 use native.Mathlib.Omega.{arith}
 use borrow.Author.Tests.{le-leb, lt-leb}
 use Rattle.node.specs.declared.Node.{Node}
 use Rattle.tables.specs.Pool.{poolOf}
 use Rattle.tables.specs.Tables.{nodeOf}
-use Rattle.notices.specs.Notices.{toldOf}
+use Rattle.outcome.specs.Told.{toldOf}
 use Rattle.lookup.specs.declared.Looked.{Looked}
 use Rattle.lookup.specs.Work.{Work, workOf, lookingOf}
 use Rattle.lookup.specs.Lookup.{look}
-use Rattle.pool.specs.declared.answer.Answer.{Answer}
-use Rattle.pool.specs.declared.answer.Answer.the-variants.{Refused}
-use Rattle.pool.specs.declared.answer.Refusal.{Refusal}
-use Rattle.pool.specs.declared.answer.Refusal as R
-use Rattle.pool.specs.declared.answer.Against.{Against}
-use Rattle.pool.specs.declared.answer.Against.the-variants.{Why, Nothing as Fine}
-use Rattle.commit.specs.Noted.{notedOf, roomOf}
-use Rattle.commit.specs.Commit.{lookedAnswer, pageRefusal, commitAt}
+use Rattle.outcome.specs.declared.answer.Answer.{Answer}
+use Rattle.outcome.specs.declared.answer.Answer.the-variants.{Refused}
+use Rattle.outcome.specs.declared.answer.Refusal.{Refusal}
+use Rattle.outcome.specs.declared.answer.Refusal as R
+use Rattle.outcome.specs.declared.answer.Against.{Against}
+use Rattle.outcome.specs.declared.answer.Against.the-variants.{Why, Nothing as Fine}
+use Rattle.outcome.specs.Room.{roomOf}
+use Rattle.outcome.specs.declared.reply.Reply.{Reply}
+use Rattle.outcome.specs.Outcome.{outcomeOf, outcome, replyOf}
+use Rattle.commit.specs.Commit.{lookedAnswer, pageRefusal, commitPageAt}
 
 module _ (N M list : List ℕ) (n page : ℕ) {r : Node} (e : r ≡ nodeOf N n) where
   pub page-out : (write : Bool) → r .size ≤ page → Why R.the-variants.OutOfRange ≡ pageRefusal N M list n page write
@@ -39,10 +41,10 @@ module _ (N M list : List ℕ) (n page : ℕ) {r : Node} (e : r ≡ nodeOf N n) 
   page-full h w b t = rw (lt-leb _ _ (rw e at h), w, sym b ∙ t)
 
 module _ (N P U M H Y list : List ℕ) (n page : ℕ) (write : Bool) {a : Against} (e : a ≡ pageRefusal N M list n page write) where
-  pub commit-refused : {r : Refusal} → a ≡ Why r → notedOf (Refused r) (poolOf N P U M H Y) (toldOf list 0) ≡ commitAt 4096 (poolOf N P U M H Y) list n page write
-  unfolding commitAt
-  commit-refused h = rw (sym e ∙ h)
+  pub commit-refused : {w : Refusal} {r : Reply} → a ≡ Why w → r ≡ replyOf (Refused w) → outcome r (poolOf N P U M H Y) list [] ≡ commitPageAt 4096 (poolOf N P U M H Y) list n page write
+  unfolding commitPageAt
+  commit-refused h r = rw (r, sym e ∙ h)
 
-  pub commit-done : {k : Looked} {w : Work} {r : Answer} → a ≡ Fine → lookingOf k w ≡ look 4096 64 N M (workOf P U Y (toldOf list 0)) n (page % 4294967296) write n → r ≡ lookedAnswer k → notedOf r (poolOf N (w .pages) (w .used) M H (w .memory)) (w .told) ≡ commitAt 4096 (poolOf N P U M H Y) list n page write
-  unfolding commitAt
+  pub commit-done : {k : Looked} {w : Work} {r : Answer} → a ≡ Fine → lookingOf k w ≡ look 4096 64 N M (workOf P U Y (toldOf list 0)) n (page % 4294967296) write n → r ≡ lookedAnswer k → outcomeOf r (poolOf N (w .pages) (w .used) M H (w .memory)) (w .told) 0 0 [] ≡ commitPageAt 4096 (poolOf N P U M H Y) list n page write
+  unfolding commitPageAt
   commit-done h l r = rw (sym e ∙ h, ← l, r)

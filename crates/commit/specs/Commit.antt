@@ -1,29 +1,25 @@
 -- commit_page, 520, on a pool of pages of L bytes, refused calls too.
 use Prim.Native.Nat.{ℕ, _%_}
 use mathlib.Core.Bool.{Bool}
-use mathlib.Core.List.{List}
+use mathlib.Core.List.{List, []}
 use lib.Dec.{leb}
 use Rattle.logic.specs.Pick.{pick}
+use Rattle.outcome.specs.declared.answer.Answer.{Answer}
+use Rattle.outcome.specs.declared.answer.Answer.the-variants.{Done, Refused}
+use Rattle.outcome.specs.declared.answer.Refusal as R
+use Rattle.outcome.specs.declared.answer.Against.{Against}
+use Rattle.outcome.specs.declared.answer.Against.the-variants.{Why, Nothing as Fine}
+use Rattle.outcome.specs.Answers.{unless}
+use Rattle.outcome.specs.Told.{toldOf}
+use Rattle.outcome.specs.Room.{roomOf}
+use Rattle.outcome.specs.Outcome.{Outcome, outcomeOf, refused}
 use Rattle.tables.specs.Pool.{Pool, poolOf}
 use Rattle.tables.specs.Tables.{nodeOf}
-use Rattle.notices.specs.Notices.{toldOf}
 use Rattle.lookup.specs.declared.Looked.{Looked}
 use Rattle.lookup.specs.declared.Looked.the-variants.{Shared, Zero, Own, New, NoMemory, Stopped}
 use Rattle.lookup.specs.Work.{Looking, workOf}
 use Rattle.lookup.specs.Lookup.{look}
-use Rattle.pool.specs.declared.answer.Answer.{Answer}
-use Rattle.pool.specs.declared.answer.Answer.the-variants.{Done, Refused}
-use Rattle.pool.specs.declared.answer.Refusal as R
-use Rattle.pool.specs.declared.answer.Refusal.{Refusal}
-use Rattle.commit.specs.declared.Noted.{Noted}
-use Rattle.pool.specs.declared.answer.Against.{Against}
-use Rattle.pool.specs.declared.answer.Against.the-variants.{Why, Nothing as Fine}
-use Rattle.pool.specs.Answers.{unless}
-use Rattle.pool.specs.Calls.{onNode}
-use Rattle.commit.specs.Noted.{Said, notedOf, refusedOf, roomOf}
-
-abbrev pub refusedBy : Refusal → Noted
-refusedBy r = record { answer = Refused r; count = 0 }
+use Rattle.pool.specs.Calls.{onObject}
 
 -- the frame, or 4,294,967,295 for the shared zero frame; a leaf hands up no frame
 abbrev pub lookedAnswer : Looked → Answer
@@ -39,15 +35,16 @@ pageRefusal N M list n page write =
     pick (leb (nodeOf N n .size) page) (Why R.the-variants.OutOfRange)
     (pick write (pick (roomOf M list 1) Fine (Why R.the-variants.NoRoom)) Fine)
 
-abbrev pub committed : Pool → Looking → Said
-committed p l =
-    notedOf (lookedAnswer (l .answer))
-    (poolOf (p .nodes) (l .work .pages) (l .work .used) (p .mappings) (p .head) (l .work .memory)) (l .work .told)
+-- what a lookup leaves
+abbrev pub lookedOutcome : Pool → Looking → Outcome Answer
+lookedOutcome p l =
+    outcomeOf (lookedAnswer (l .answer))
+    (poolOf (p .nodes) (l .work .pages) (l .work .used) (p .mappings) (p .head) (l .work .memory)) (l .work .told) 0 0 []
 
-unfoldable pub commitAt : ℕ → Pool → List ℕ → ℕ → ℕ → Bool → Said
-commitAt L p list n page write =
-    unless (pageRefusal (p .nodes) (p .mappings) list n page write) (refusedOf p list)
-    (committed p (look L 64 (p .nodes) (p .mappings) (workOf (p .pages) (p .used) (p .memory) (toldOf list 0)) n (page % 4294967296) write n))
+unfoldable pub commitPageAt : ℕ → Pool → List ℕ → ℕ → ℕ → Bool → Outcome Answer
+commitPageAt L p list n page write =
+    unless (pageRefusal (p .nodes) (p .mappings) list n page write) (refused p list [])
+    (lookedOutcome p (look L 64 (p .nodes) (p .mappings) (workOf (p .pages) (p .used) (p .memory) (toldOf list 0)) n (page % 4294967296) write n))
 
-abbrev pub commitPage : ℕ → Pool → List ℕ → ℕ → ℕ → Bool → Said
-commitPage L p list object page write = onNode L p object (refusedOf p list) (λ n. commitAt L p list n page write)
+abbrev pub commitPage : ℕ → Pool → List ℕ → ℕ → ℕ → Bool → Outcome Answer
+commitPage L p list object page write = onObject L p object (refused p list []) (λ n. commitPageAt L p list n page write)

@@ -1,53 +1,16 @@
 // The call commit_page (paged.rs 520): one page looked up for reading or for writing.
-use logic::Found;
 use lookup::Looked;
-use pool::Against;
-use pool::Answer;
-use pool::Refusal;
+use outcome::Against;
+use outcome::Answer;
+use outcome::Refusal;
+use outcome::Reply;
+use pool::Entered;
 ghost use mathlib.Core.Path.{_≡_};
-ghost use mathlib.Core.List.{List};
-ghost use Prim.Native.Nat.{ℕ, _≤_};
+ghost use mathlib.Core.List.{List, []};
+ghost use Prim.Native.Nat.{ℕ};
+ghost use Rattle.outcome.specs.Outcome.{outcome};
 ghost use Rattle.tables.specs.Pool.{poolOf};
-ghost use Rattle.notices.specs.Notices.{toldOf};
-ghost use Rattle.commit.specs.Noted.{notedOf, liveOne, liveCount, roomOf};
-ghost use Rattle.commit.specs.Commit.{refusedBy, lookedAnswer, pageRefusal, commitAt, commitPage};
-
-// An answer, and how many notices the list has by then.
-pub struct Noted {
-    pub answer: Answer,
-    pub count: usize,
-}
-
-fn live_one(mappings: &[u32], place: u32) -> u32
-    ensures { λ r. ⌜ r ≡ liveOne (now (mappings .entry)) place ⌝ }
-    ensures small { λ r. ⌜ r ≤ 1 ⌝ }
-{
-    if tables::number_at(mappings, place) == 0 {
-        return 0;
-    }
-    1
-}
-
-fn live_count(mappings: &[u32]) -> u32
-    ensures { λ r. ⌜ r ≡ liveCount (now (mappings .entry)) ⌝ }
-    ensures small { λ r. ⌜ r ≤ 64 ⌝ }
-{
-    let mut sum: u32 = 0;
-    let mut i: u32 = 0;
-    while i < 64 {
-        sum += live_one(mappings, i);
-        i += 1;
-    }
-    sum
-}
-
-// The list takes as many notices as the pages touched times the live mappings.
-pub fn has_room(mappings: &[u32], notices: &[u32], pages: u64) -> bool
-    requires { ⌜ pages ≤ 17592186044416 ⌝ }
-    ensures { λ r. ⌜ r ≡ roomOf (now (mappings .entry)) (now (notices .entry)) pages ⌝ }
-{
-    pages * live_count(mappings) as u64 <= (notices.len() / 4) as u64
-}
+ghost use Rattle.commit.specs.Commit.{lookedAnswer, pageRefusal, commitPageAt, commitPage};
 
 fn looked_answer(looked: Looked) -> Answer
     ensures { λ r. ⌜ r ≡ lookedAnswer looked ⌝ }
@@ -78,7 +41,7 @@ fn page_refusal(
         return Against::Why(Refusal::OutOfRange);
     }
     if write {
-        if has_room(mappings, notices, 1) {
+        if outcome::has_room(mappings, notices, 1) {
             return Against::Nothing;
         }
         return Against::Why(Refusal::NoRoom);
@@ -87,7 +50,7 @@ fn page_refusal(
 }
 
 // The lookup and its answer.
-fn commit_at(
+fn commit_page_at(
     nodes: &[u32],
     pages: &mut [u32],
     used: &mut [u8],
@@ -97,17 +60,14 @@ fn commit_at(
     node: u32,
     page: u64,
     write: bool,
-) -> Noted
+) -> Reply
     ensures { λ r. ⌜ ((head : List ℕ) →
-        notedOf (r .answer) (poolOf (now (nodes .entry)) (now (pages .exit)) (now (used .exit)) (now (mappings .entry)) head (now (memory .exit))) (toldOf (now (notices .exit)) (r .count))
-        ≡ commitAt 4096 (poolOf (now (nodes .entry)) (now (pages .entry)) (now (used .entry)) (now (mappings .entry)) head (now (memory .entry))) (now (notices .entry)) node page write) ⌝ }
+        outcome r (poolOf (now (nodes .entry)) (now (pages .exit)) (now (used .exit)) (now (mappings .entry)) head (now (memory .exit))) (now (notices .exit)) []
+        ≡ commitPageAt 4096 (poolOf (now (nodes .entry)) (now (pages .entry)) (now (used .entry)) (now (mappings .entry)) head (now (memory .entry))) (now (notices .entry)) node page write) ⌝ }
 {
     let against = page_refusal(nodes, mappings, notices, node, page, write);
     match against {
-        Against::Why(why) => {
-            let answer = Answer::Refused(why);
-            return Noted { answer, count: 0 };
-        }
+        Against::Why(why) => return Reply::refused(why),
         Against::Nothing => {
             let i = (page % 4294967296) as u32;
             let step = seek::find_page(
@@ -124,19 +84,14 @@ fn commit_at(
             );
             let looked = step.looked;
             let answer = looked_answer(looked);
-            return Noted {
+            return Reply {
                 answer,
+                done: 0,
+                taken: 0,
                 count: step.count,
             };
         }
     }
-}
-
-pub fn refused(why: Refusal) -> Noted
-    ensures { λ r. ⌜ r ≡ refusedBy why ⌝ }
-{
-    let answer = Answer::Refused(why);
-    Noted { answer, count: 0 }
 }
 
 // The frame of an object's page, for reading or for writing.
@@ -151,29 +106,26 @@ pub fn commit_page(
     object: u64,
     page: u64,
     write: bool,
-) -> Noted
+) -> Reply
     ensures { λ r. ⌜
-        notedOf (r .answer) (poolOf (now (nodes .entry)) (now (pages .exit)) (now (used .exit)) (now (mappings .entry)) (now (head .entry)) (now (memory .exit))) (toldOf (now (notices .exit)) (r .count))
+        outcome r (poolOf (now (nodes .entry)) (now (pages .exit)) (now (used .exit)) (now (mappings .entry)) (now (head .entry)) (now (memory .exit))) (now (notices .exit)) []
         ≡ commitPage 4096 (poolOf (now (nodes .entry)) (now (pages .entry)) (now (used .entry)) (now (mappings .entry)) (now (head .entry)) (now (memory .entry))) (now (notices .entry)) object page write ⌝ }
 {
-    if sound::is_sound(nodes, pages, used, mappings, head, memory) {
-        let found = pool::find_object(nodes, object);
-        match found {
-            Found::At(node) => {
-                return commit_at(
-                    nodes,
-                    pages,
-                    used,
-                    mappings,
-                    memory,
-                    notices,
-                    node,
-                    page,
-                    write,
-                );
-            }
-            Found::Nothing => return refused(Refusal::NoObject),
+    let entered = pool::enter(nodes, pages, used, mappings, head, memory, object);
+    match entered {
+        Entered::At(node) => {
+            return commit_page_at(
+                nodes,
+                pages,
+                used,
+                mappings,
+                memory,
+                notices,
+                node,
+                page,
+                write,
+            );
         }
+        Entered::Refused(why) => return Reply::refused(why),
     }
-    refused(Refusal::BadPool)
 }

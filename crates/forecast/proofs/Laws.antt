@@ -5,30 +5,32 @@ use mathlib.Core.List.{List}
 use Prim.Native.Nat.{ℕ, _+_, _-_, _*_, _/_, _%_, _≤_, _<_}
 use native.Mathlib.Omega.{arith}
 use lib.Dec.{eqb, leb}
-use borrow.Author.Tests.{le-leb, lt-leb, lt-ltb, le-ltb}
+use borrow.Author.Tests.{le-ltb}
 use Rattle.logic.specs.Pick.{pick}
+use Rattle.entry.specs.Entry.{slotOf}
 use Rattle.entry.specs.declared.Slot.{Slot}
 use Rattle.entry.specs.declared.Slot.the-variants.{Empty, Held}
 use Rattle.entry.specs.declared.PageState.{PageState}
 use Rattle.node.specs.declared.Node.{Node}
+use Rattle.node.specs.Node.{containsOf}
 use Rattle.blocks.specs.declared.BlockIter.{BlockIter}
 use Rattle.blocks.specs.Blocks.{iterOf, pagesOf, countOf}
-use Rattle.tables.specs.Tables.{nodeOf, slotAt}
-use Rattle.pool.specs.declared.answer.Answer.the-variants.{Done, Refused}
-use Rattle.pool.specs.declared.answer.Refusal.the-variants.{OutOfRange}
+use Rattle.tables.specs.Tables.{nodeOf, entryOf, slotAt}
+use Rattle.outcome.specs.declared.answer.Answer.the-variants.{Done, Refused}
+use Rattle.outcome.specs.declared.answer.Refusal.the-variants.{OutOfRange}
 use Rattle.forecast.specs.Forecast.{oneAbsent, absentAt, yesOf, forecastAnswer}
 
 module _ (pages : List ℕ) (n i : ℕ) {s : Slot} where
-  pub absent-empty : i < 64 → s ≡ slotAt pages n i → s ≡ Empty → 1 ≡ absentAt pages n i
+  pub absent-empty : s ≡ slotAt pages n i → s ≡ Empty → 1 ≡ absentAt pages n i
   unfolding absentAt
-  absent-empty h e t = rw (lt-ltb _ _ h, sym e ∙ t)
+  absent-empty e t = rw (sym e ∙ t)
 
-  pub absent-held : {p : PageState} → i < 64 → s ≡ slotAt pages n i → s ≡ Held p → 0 ≡ absentAt pages n i
+  pub absent-held : {p : PageState} → s ≡ slotAt pages n i → s ≡ Held p → 0 ≡ absentAt pages n i
   unfolding absentAt
-  absent-held h e t = rw (lt-ltb _ _ h, sym e ∙ t)
+  absent-held e t = rw (sym e ∙ t)
 
 pub absent-past : (pages : List ℕ) (n i : ℕ) → 64 ≤ i → 1 ≡ absentAt pages n i
-unfolding absentAt
+unfolding absentAt slotAt entryOf slotOf
 absent-past pages n i h = rw (le-ltb _ _ h)
 
 -- a count of pages is small
@@ -48,11 +50,11 @@ count-small range e h =
     let b = count-by (leb (range .end) (range .begin)) (pick (eqb (range .end % 4096) 0) (range .end / 4096) (range .end / 4096 + 1)) (range .end) (range .begin / 4096) a in
     rw e (omega arith)
 
-module _ (nodes pages used : List ℕ) (n offset len : ℕ) {r : Node} (e : r ≡ nodeOf nodes n) where
-  pub out-of-range : r .size * 4096 < offset + len → Refused OutOfRange ≡ forecastAnswer 4096 nodes pages used n offset len
+module _ (nodes pages used : List ℕ) (n offset len : ℕ) {r : Node} {b : Bool} (e : r ≡ nodeOf nodes n) (c : b ≡ containsOf 4096 r offset len) where
+  pub out-of-range : b ≡ false → Refused OutOfRange ≡ forecastAnswer 4096 nodes pages used n offset len
   unfolding forecastAnswer
-  out-of-range h = rw (lt-leb _ _ (rw e at h))
+  out-of-range h = rw (← e, sym c ∙ h)
 
-  pub in-range : {y : ℕ} → offset + len ≤ r .size * 4096 → y ≡ yesOf 4096 pages used n (iterOf offset (offset + len)) → Done y ≡ forecastAnswer 4096 nodes pages used n offset len
+  pub in-range : {y : ℕ} → b ≡ true → y ≡ yesOf 4096 pages used n (iterOf offset (offset + len)) → Done y ≡ forecastAnswer 4096 nodes pages used n offset len
   unfolding forecastAnswer
-  in-range h a = rw (le-leb _ _ (rw e at h), a)
+  in-range h a = rw (← e, sym c ∙ h, a)

@@ -1,9 +1,10 @@
 -- The call forecast on a pool of pages of L bytes, refused ones too.
 use Prim.Native.Nat.{ℕ, _+_, _*_, _/_}
-use mathlib.Core.List.{List}
-use lib.Dec.{leb, ltb}
+use mathlib.Core.List.{List, []}
+use lib.Dec.{leb}
 use Rattle.logic.specs.Pick.{pick}
 use Rattle.logic.specs.Below.{sumBelow}
+use Rattle.node.specs.Node.{containsOf}
 use Rattle.entry.specs.declared.Slot.{Slot}
 use Rattle.entry.specs.declared.Slot.the-variants.{Empty, Held}
 use Rattle.blocks.specs.declared.BlockIter.{BlockIter}
@@ -11,10 +12,11 @@ use Rattle.blocks.specs.Blocks.{iterOf, countOf}
 use Rattle.tables.specs.Pool.{Pool}
 use Rattle.tables.specs.Tables.{nodeOf, slotAt}
 use Rattle.frames.specs.Frames.{freeCount}
-use Rattle.pool.specs.declared.answer.Answer.{Answer}
-use Rattle.pool.specs.declared.answer.Answer.the-variants.{Done, Refused}
-use Rattle.pool.specs.declared.answer.Refusal.the-variants.{OutOfRange}
-use Rattle.pool.specs.Calls.{Call, callOf, onObject}
+use Rattle.outcome.specs.declared.answer.Answer.{Answer}
+use Rattle.outcome.specs.declared.answer.Answer.the-variants.{Done, Refused}
+use Rattle.outcome.specs.declared.answer.Refusal.the-variants.{OutOfRange}
+use Rattle.outcome.specs.Outcome.{Outcome, refused}
+use Rattle.pool.specs.Calls.{saying, onObject}
 
 abbrev pub oneAbsent : Slot → ℕ
 oneAbsent Empty = 1
@@ -22,7 +24,7 @@ oneAbsent (Held s) = 0
 
 -- the node holds no frame for the page
 unfoldable pub absentAt : List ℕ → ℕ → ℕ → ℕ
-absentAt pages n i = pick (ltb i 64) (oneAbsent (slotAt pages n i)) 1
+absentAt pages n i = oneAbsent (slotAt pages n i)
 
 unfoldable pub absentFrom : List ℕ → ℕ → ℕ → ℕ → ℕ
 absentFrom pages n first k = absentAt pages n (first + k)
@@ -36,8 +38,8 @@ yesOf L pages used n range = pick (leb (absentIn pages n (range .begin / L) (cou
 
 unfoldable pub forecastAnswer : ℕ → List ℕ → List ℕ → List ℕ → ℕ → ℕ → ℕ → Answer
 forecastAnswer L nodes pages used n offset len =
-    pick (leb (offset + len) (nodeOf nodes n .size * L)) (Done (yesOf L pages used n (iterOf offset (offset + len)))) (Refused OutOfRange)
+    pick (containsOf L (nodeOf nodes n) offset len) (Done (yesOf L pages used n (iterOf offset (offset + len)))) (Refused OutOfRange)
 
-abbrev pub forecast : ℕ → Pool → ℕ → ℕ → ℕ → Call
+abbrev pub forecast : ℕ → Pool → ℕ → ℕ → ℕ → Outcome Answer
 forecast L p object offset len =
-    onObject L p object (λ n. callOf (forecastAnswer L (p .nodes) (p .pages) (p .used) n offset len) p)
+    onObject L p object (refused p [] []) (λ n. saying (forecastAnswer L (p .nodes) (p .pages) (p .used) n offset len) p)

@@ -1,13 +1,15 @@
 // The call forecast: are there as many free frames as the range has pages that the leaf does not hold?
 use blocks::BlockIter;
 use entry::Slot;
-use logic::Found;
-use pool::Answer;
-use pool::Refusal;
+use outcome::Answer;
+use outcome::Refusal;
+use outcome::Reply;
+use pool::Entered;
 ghost use mathlib.Core.Path.{_≡_};
+ghost use mathlib.Core.List.{[]};
 ghost use Prim.Native.Nat.{_≤_, _<_};
+ghost use Rattle.outcome.specs.Outcome.{outcome};
 ghost use Rattle.tables.specs.Pool.{poolOf};
-ghost use Rattle.pool.specs.Calls.{callOf};
 ghost use Rattle.forecast.specs.Forecast.{absentAt, absentIn, yesOf, forecastAnswer, forecast};
 
 // 1 where the node holds no frame for the page.
@@ -52,11 +54,7 @@ fn answer(nodes: &[u32], pages: &[u32], used: &[u8], node: u32, offset: u64, len
     ensures { λ r. ⌜ r ≡ forecastAnswer 4096 (now (nodes .entry)) (now (pages .entry)) (now (used .entry)) node offset len ⌝ }
 {
     let n = tables::node_at(nodes, node);
-    let size = n.size as u64 * 4096;
-    if size < len {
-        return Answer::Refused(Refusal::OutOfRange);
-    }
-    if size - len < offset {
+    if !n.contains(offset, len) {
         return Answer::Refused(Refusal::OutOfRange);
     }
     let range = BlockIter {
@@ -77,17 +75,14 @@ pub fn forecast(
     object: u64,
     offset: u64,
     len: u64,
-) -> Answer
+) -> Reply
     ensures { λ r. ⌜
-        callOf r (poolOf (now (nodes .entry)) (now (pages .entry)) (now (used .entry)) (now (mappings .entry)) (now (head .entry)) (now (memory .entry)))
+        outcome r (poolOf (now (nodes .entry)) (now (pages .entry)) (now (used .entry)) (now (mappings .entry)) (now (head .entry)) (now (memory .entry))) [] []
         ≡ forecast 4096 (poolOf (now (nodes .entry)) (now (pages .entry)) (now (used .entry)) (now (mappings .entry)) (now (head .entry)) (now (memory .entry))) object offset len ⌝ }
 {
-    if sound::is_sound(nodes, pages, used, mappings, head, memory) {
-        let found = pool::find_object(nodes, object);
-        match found {
-            Found::At(node) => return answer(nodes, pages, used, node, offset, len),
-            Found::Nothing => return Answer::Refused(Refusal::NoObject),
-        }
+    let entered = pool::enter(nodes, pages, used, mappings, head, memory, object);
+    match entered {
+        Entered::At(node) => return Reply::of(answer(nodes, pages, used, node, offset, len)),
+        Entered::Refused(why) => return Reply::refused(why),
     }
-    Answer::Refused(Refusal::BadPool)
 }

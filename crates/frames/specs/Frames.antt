@@ -41,7 +41,7 @@ blankAt d a n = pick (leb (a + n) (length d)) (zeroed d a n) d
 
 -- a frame cleared: PhysFrame::new_zero
 unfoldable pub clearedAt : ℕ → List ℕ → ℕ → List ℕ
-clearedAt L m f = pick (leb (f * L + L) (length m)) (zeroed m (f * L) L) m
+clearedAt L m f = blankAt m (f * L) L
 
 -- one frame's bytes put into another: pmem_copy
 unfoldable pub copiedAt : ℕ → List ℕ → ℕ → ℕ → List ℕ

@@ -2,7 +2,7 @@
 use peek::Place;
 ghost use mathlib.Core.Path.{_≡_};
 ghost use Rattle.tables.specs.Pool.{poolOf};
-ghost use Rattle.notices.specs.Notices.{toldOf};
+ghost use Rattle.outcome.specs.Told.{toldOf};
 ghost use Rattle.ranges.specs.Ranges.{read, write, commit};
 ghost use Rattle.peek.specs.Peek.{place};
 ghost use Rattle.exports.specs.Exports.{rangeBy, givenRange, filledBy, givenFilled, placeCode, placeValue};

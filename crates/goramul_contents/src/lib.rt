@@ -8,7 +8,7 @@ pub use bytes::goramul_write;
 ghost use mathlib.Core.Path.{_≡_};
 ghost use Rattle.tables.specs.Pool.{poolOf};
 ghost use Rattle.forecast.specs.Forecast.{forecast};
-ghost use Rattle.notices.specs.Notices.{toldOf};
+ghost use Rattle.outcome.specs.Told.{toldOf};
 ghost use Rattle.commit.specs.Commit.{commitPage};
 ghost use Rattle.exports.specs.Exports.{givenOf, given, notedBy, givenNoted};
 

@@ -1,7 +1,7 @@
 // The export of create_child.
 ghost use mathlib.Core.Path.{_≡_};
 ghost use Rattle.tables.specs.Pool.{poolOf};
-ghost use Rattle.notices.specs.Notices.{toldOf};
+ghost use Rattle.outcome.specs.Told.{toldOf};
 ghost use Rattle.child.specs.Child.{createChild};
 ghost use Rattle.exports.specs.Exports.{notedBy, givenNoted};
 

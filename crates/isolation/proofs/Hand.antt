@@ -14,7 +14,7 @@ use Rattle.entry.specs.declared.Slot.the-variants.{Empty, Held}
 use Rattle.entry.specs.Entry.{splitOf}
 use Rattle.tables.specs.Tables.{nodeOf, slotAt}
 use Rattle.frames.specs.Frames.{freeFrameIn}
-use Rattle.notices.specs.Notices.{Told}
+use Rattle.outcome.specs.Told.{Told}
 use Rattle.lookup.specs.declared.Looked.the-variants.{Shared, Own, NoMemory}
 use Rattle.lookup.specs.Work.{Work, Looking, lookingOf}
 use Rattle.lookup.specs.Mode.{today, placeOf}

@@ -11,7 +11,7 @@ use Rattle.entry.specs.declared.Slot.the-variants.{Empty, Held}
 use Rattle.entry.specs.Entry.{splitOf, taggedOf}
 use Rattle.tables.specs.Tables.{nodeOf, withState}
 use Rattle.frames.specs.Frames.{freeFrameIn, copiedAt}
-use Rattle.notices.specs.Notices.{Told}
+use Rattle.outcome.specs.Told.{Told}
 use Rattle.lookup.specs.Work.{Work, workOf}
 use Rattle.lookup.specs.Mode.{other}
 use Rattle.lookup.specs.Level.{withTold, without}

@@ -13,7 +13,7 @@ use Rattle.entry.specs.Entry.{newState}
 use Rattle.tables.specs.Tables.{nodeOf, slotAt}
 use Rattle.lookup.specs.Work.{Work}
 use Rattle.lookup.specs.Level.{withTold, kept}
-use Rattle.notices.specs.Notices.{Told}
+use Rattle.outcome.specs.Told.{Told}
 use Rattle.sound.specs.Facts.{Leaf, Holds, Entries}
 use Rattle.isolation.specs.Walk.{View, byteOf}
 use Rattle.isolation.specs.Private.{linksOf}

@@ -11,7 +11,7 @@ use Rattle.frames.specs.Frames.{freeCount, freeFrameIn}
 use Rattle.lookup.specs.declared.Looked.{Looked}
 use Rattle.lookup.specs.declared.Looked.the-variants.{Shared, Zero, Own, New, NoMemory, Stopped}
 use Rattle.lookup.specs.Work.{Work, workOf, Looking}
-use Rattle.notices.specs.Notices.{Told}
+use Rattle.outcome.specs.Told.{Told}
 use Rattle.sound.specs.Facts.{Holds}
 use Rattle.isolation.specs.Walk.{Over}
 use Rattle.isolation.specs.Private.{linksOf, Private}

@@ -17,7 +17,8 @@ use Rattle.node.specs.declared.Side.{Side}
 use Rattle.node.specs.Node.{hiddenOf, windowOf, sideOf}
 use Rattle.tables.specs.Tables.{nodeOf, withState, withoutState}
 use Rattle.frames.specs.Frames.{freeFrameIn, takenOf, givenOf, clearedAt, copiedAt}
-use Rattle.notices.specs.Notices.{Told, childOf}
+use Rattle.outcome.specs.Told.{Told}
+use Rattle.notices.specs.Notices.{childOf}
 use Rattle.lookup.specs.declared.Looked.{Looked}
 use Rattle.lookup.specs.declared.Looked.the-variants.{Shared, Zero, Own, New, NoMemory, Stopped}
 use Rattle.lookup.specs.declared.Place.{Place}

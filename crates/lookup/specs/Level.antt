@@ -12,7 +12,8 @@ use Rattle.entry.specs.Entry.{splitOf, newState, taggedOf}
 use Rattle.node.specs.Node.{hiddenOf, sideOf}
 use Rattle.tables.specs.Tables.{slotAt, withState, withoutState}
 use Rattle.frames.specs.Frames.{freeFrameIn, takenOf, givenOf, clearedAt, copiedAt}
-use Rattle.notices.specs.Notices.{Told, tellObject, rangeChange}
+use Rattle.outcome.specs.Told.{Told}
+use Rattle.notices.specs.Notices.{tellObject, rangeChange}
 use Rattle.lookup.specs.declared.Looked.{Looked}
 use Rattle.lookup.specs.declared.Looked.the-variants.{Shared, Zero, Own, New, NoMemory, Stopped}
 use Rattle.lookup.specs.declared.Place.{Place}

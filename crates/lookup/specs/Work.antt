@@ -1,7 +1,7 @@
 -- What a step may change, as one value; and a step's answer with what it leaves.
 use Prim.Native.Nat.{ℕ}
 use mathlib.Core.List.{List}
-use Rattle.notices.specs.Notices.{Told}
+use Rattle.outcome.specs.Told.{Told}
 use Rattle.lookup.specs.declared.Looked.{Looked}
 
 pub record Work : Type 0 where

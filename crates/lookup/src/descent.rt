@@ -11,7 +11,7 @@ ghost use mathlib.Core.Path.{_≡_};
 ghost use mathlib.Core.Bool.{false};
 ghost use mathlib.Core.List.{List};
 ghost use Prim.Native.Nat.{ℕ, _+_, _*_, _≤_};
-ghost use Rattle.notices.specs.Notices.{toldOf};
+ghost use Rattle.outcome.specs.Told.{toldOf};
 ghost use Rattle.lookup.specs.Work.{workOf, lookingOf};
 ghost use Rattle.lookup.specs.Mode.{today, ups};
 ghost use Rattle.lookup.specs.Level.{fresh, serve};

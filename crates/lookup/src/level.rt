@@ -14,7 +14,7 @@ ghost use Prim.Native.Nat.{ℕ, _≤_, _<_};
 ghost use Rattle.node.specs.Node.{sideOf};
 ghost use Rattle.tables.specs.Tables.{nodeOf};
 ghost use Rattle.frames.specs.Frames.{freeFrameIn};
-ghost use Rattle.notices.specs.Notices.{toldOf};
+ghost use Rattle.outcome.specs.Told.{toldOf};
 ghost use Rattle.lookup.specs.Work.{workOf, lookingOf};
 ghost use Rattle.lookup.specs.Mode.{today};
 ghost use Rattle.lookup.specs.Level.{freshIn, childTold, copyBy, shareIn, leafTold, serve, passBy};
@@ -122,7 +122,7 @@ fn tell_child(
         let span = Span {
             lo: page,
             hi: page + 1,
-            op: notices::UNMAP,
+            op: outcome::UNMAP,
         };
         return notices::range_change(nodes, mappings, notices, count, child, span, 64);
     }
@@ -138,7 +138,7 @@ fn tell_leaf(mappings: &[u32], notices: &mut [u32], count: usize, p: Place, unma
         let span = Span {
             lo: p.page,
             hi: p.page + 1,
-            op: notices::UNMAP,
+            op: outcome::UNMAP,
         };
         return notices::tell_object(mappings, notices, count, p.node, span);
     }

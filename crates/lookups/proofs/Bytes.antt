@@ -11,7 +11,7 @@ use borrow.Author.Tests.{le-leb}
 use Rattle.logic.specs.Below.{copied, zeroed}
 use Rattle.logic.proofs.Means.{equal, split}
 use Rattle.logic.proofs.Laws.{copied-length, zeroed-length, copied-outside}
-use Rattle.frames.specs.Frames.{pastedAt, clearedAt, copiedAt}
+use Rattle.frames.specs.Frames.{pastedAt, blankAt, clearedAt, copiedAt}
 
 -- frames lie apart, and inside the memory
 
@@ -66,15 +66,15 @@ module _ (L F : ℕ) (m : List ℕ) (len : length m ≡ F * L) (g : ℕ) (in-g :
   room-g = let r = frame-room L F g in-g in omega arith
 
   pub cleared-length : length (clearedAt L m g) ≡ F * L
-  unfolding clearedAt
+  unfolding clearedAt blankAt
   cleared-length = rw (le-leb (g * L + L) (length m) room-g) (zeroed-length m (g * L) L ∙ len)
 
   pub cleared-same : (k : ℕ) → k < L → getD (clearedAt L m g) (g * L + k) 0 ≡ 0
-  unfolding clearedAt
+  unfolding clearedAt blankAt
   cleared-same k l = rw (le-leb (g * L + L) (length m) room-g) (zeroed-inside m (g * L) L k l room-g)
 
   pub cleared-other : (e k : ℕ) → k < L → (e ≡ g → ⊥) → getD (clearedAt L m g) (e * L + k) 0 ≡ getD m (e * L + k) 0
-  unfolding clearedAt
+  unfolding clearedAt blankAt
   cleared-other e k l ne = rw (le-leb (g * L + L) (length m) room-g) (zeroed-outside m (g * L) L (e * L + k) (λ j i q. ne (frame-one L e g k j l i q)))
 
   module _ (f : ℕ) (in-f : f < F) where

@@ -10,7 +10,7 @@ use Rattle.entry.specs.declared.PageState.{PageState}
 use Rattle.entry.specs.Entry.{taggedOf}
 use Rattle.node.specs.Node.{sideOf}
 use Rattle.frames.specs.Frames.{freeFrameIn}
-use Rattle.notices.specs.Notices.{Told}
+use Rattle.outcome.specs.Told.{Told}
 use Rattle.lookup.specs.declared.Looked.the-variants.{Own}
 use Rattle.lookup.specs.Work.{Work, Looking, lookingOf}
 use Rattle.sound.specs.Facts.{Hidden, Holds}

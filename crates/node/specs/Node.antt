@@ -1,5 +1,5 @@
 -- What a node's record says of itself (paged.rs 18 to 99 and 538 to 544).
-use Prim.Native.Nat.{ℕ, _+_, min}
+use Prim.Native.Nat.{ℕ, _+_, _*_, min}
 use mathlib.Core.Bool.{Bool, _&&_, _||_, not}
 use lib.Dec.{eqb, leb, ltb}
 use Rattle.logic.specs.Pick.{pick}
@@ -7,6 +7,14 @@ use Rattle.entry.specs.declared.PageStateTag.{PageStateTag}
 use Rattle.entry.specs.declared.PageStateTag.the-variants.{Owned, LeftSplit, RightSplit}
 use Rattle.node.specs.declared.Node.{Node}
 use Rattle.node.specs.declared.Side.{Side}
+
+-- the last owner number that is given, 1083
+abbrev pub lastOwner : ℕ
+lastOwner = 16777215
+
+-- no object has so many bytes: its size is a number of 32 bits, in pages of 4,096
+abbrev pub byteLimit : ℕ
+byteLimit = 17592186044416
 
 -- a record by its ten words, in the order of the table
 abbrev pub nodeBy : ℕ → ℕ → ℕ → ℕ → ℕ → ℕ → ℕ → ℕ → ℕ → ℕ → Node
@@ -38,6 +46,14 @@ hiddenOf n = eqb (n .kind) 3
 -- a live leaf
 abbrev pub leafOf : Node → Bool
 leafOf n = eqb (n .kind) 1 || eqb (n .kind) 2
+
+-- the policy is Cached, 227 and 237
+unfoldable pub cachedOf : Node → Bool
+cachedOf n = eqb (n .«cache_policy») 0
+
+-- the byte range lies inside, for pages of L bytes
+unfoldable pub containsOf : ℕ → Node → ℕ → ℕ → Bool
+containsOf L n offset len = leb (offset + len) (n .size * L)
 
 -- the parent's page lies in the window, 603
 abbrev pub windowOf : Node → ℕ → Bool

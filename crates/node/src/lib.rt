@@ -1,8 +1,9 @@
 // A node's record (paged.rs 18 to 99), by value. Windows and size are counted in pages. A link is 0 for none, else a node's number + 1.
 use entry::PageStateTag;
 ghost use mathlib.Core.Path.{_≡_};
+ghost use mathlib.Core.Bool.{true};
 ghost use Prim.Native.Nat.{_+_, _≤_, _<_, min};
-ghost use Rattle.node.specs.Node.{freeNode, originNode, hiddenOf, leafOf, windowOf, outOf, sideOf, snapshotNode, hiddenNode, belowNode, relinkedNode};
+ghost use Rattle.node.specs.Node.{byteLimit, freeNode, originNode, hiddenOf, leafOf, cachedOf, containsOf, windowOf, outOf, sideOf, snapshotNode, hiddenNode, belowNode, relinkedNode};
 
 pub struct Node {
     pub kind: u32,
@@ -49,6 +50,8 @@ impl Node {
 
     pub const MAX_PAGES: u32 = 64;
 
+    pub const LAST_OWNER: u32 = 16777215;
+
     pub fn free() -> Self
         ensures { λ r. ⌜ r ≡ freeNode ⌝ }
     {
@@ -94,6 +97,24 @@ impl Node {
         ensures { λ r. ⌜ r ≡ leafOf self ⌝ }
     {
         (self.kind == Node::ORIGIN) | (self.kind == Node::SNAPSHOT)
+    }
+
+    pub fn is_cached(self) -> bool
+        ensures { λ r. ⌜ r ≡ cachedOf self ⌝ }
+    {
+        self.cache_policy == 0
+    }
+
+    // The byte range lies inside. (No sum: it could be too large for a number.)
+    pub fn contains(self, offset: u64, len: u64) -> bool
+        ensures { λ r. ⌜ r ≡ containsOf 4096 self offset len ⌝ }
+        ensures fits { λ r. ⌜ (r ≡ true → offset + len < byteLimit) ⌝ }
+    {
+        let size = self.size as u64 * 4096;
+        if size < len {
+            return false;
+        }
+        offset <= size - len
     }
 
     // The parent's page lies in this node's window.

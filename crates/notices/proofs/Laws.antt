@@ -2,11 +2,10 @@
 use mathlib.Core.Path.{_≡_, refl, sym, ap, _∙_}
 use mathlib.Core.Bool.{Bool, true, false}
 use mathlib.Core.List.{List}
-use Prim.Native.Nat.{ℕ, zero, suc, _+_, _-_, _*_, _/_, _≤_, _<_, max, min}
+use Prim.Native.Nat.{ℕ, zero, suc, _+_, _-_, _≤_, _<_, max, min}
 use native.Mathlib.Omega.{arith}
 use native.Mathlib.Numerals.{add-one}
 use lib.Dec.{eqb, ltb}
-use lib.ListN.{length, set}
 use borrow.Author.Tests.{eq-eqb, ne-eqb, lt-ltb, le-ltb}
 use Rattle.logic.proofs.Means.{equal, split}
 use Rattle.node.specs.declared.Node.{Node}
@@ -14,18 +13,11 @@ use Rattle.node.specs.Node.{hiddenOf}
 use Rattle.tables.specs.declared.Mapping.{Mapping}
 use Rattle.tables.specs.Tables.{nodeOf, mappingOf, mappingBy}
 use Rattle.logic.proofs.Laws.{run-rest}
-use Rattle.notices.specs.declared.Notice.{Notice}
+use Rattle.outcome.specs.declared.notice.Notice.{Notice}
+use Rattle.outcome.specs.Told.{Told, noticeBy, putNotice}
 use Rattle.notices.specs.declared.Due.{Due}
 use Rattle.notices.specs.declared.Due.the-variants.{Notice as Tell, Nothing}
-use Rattle.notices.specs.Notices.{Told, toldOf, noticeBy, putNotice, overlapOf, tellDue, tellPlace, tellObject, lowIn, highIn, childOf, rangeChange}
-
-pub put-room : (l : List ℕ) (c : ℕ) (n : Notice) {a b d e : List ℕ} → c < length l / 4 → a ≡ set l (c * 4) (n .mapping) → b ≡ set a (c * 4 + 1) (n .first) → d ≡ set b (c * 4 + 2) (n .pages) → e ≡ set d (c * 4 + 3) (n .op) → toldOf e (c + 1) ≡ putNotice (toldOf l c) n
-unfolding putNotice
-put-room l c n h p q r s = rw (lt-ltb _ _ h, s, r, q, p)
-
-pub put-full : (l : List ℕ) (c : ℕ) (n : Notice) → length l / 4 ≤ c → toldOf l c ≡ putNotice (toldOf l c) n
-unfolding putNotice
-put-full l c n h = rw (le-ltb _ _ h)
+use Rattle.notices.specs.Notices.{overlapOf, tellDue, tellPlace, tellObject, lowIn, highIn, childOf, rangeChange}
 
 module _ (m : Mapping) (lo hi op : ℕ) where
   pub overlap-free : m .number ≡ 0 → Nothing ≡ overlapOf m lo hi op

@@ -1,35 +1,15 @@
 -- Notices to mappings, in pages: the list so far, with what a change of a range adds.
-use Prim.Native.Nat.{ℕ, zero, suc, _+_, _-_, _*_, _/_, max, min}
-use mathlib.Core.Bool.{Bool, true, false}
+use Prim.Native.Nat.{ℕ, zero, suc, _+_, _-_, max, min}
 use mathlib.Core.List.{List}
 use lib.Dec.{eqb, ltb}
-use lib.ListN.{length, set}
 use Rattle.logic.specs.Pick.{pick}
 use Rattle.node.specs.declared.Node.{Node}
 use Rattle.node.specs.Node.{hiddenOf}
 use Rattle.tables.specs.declared.Mapping.{Mapping}
 use Rattle.tables.specs.Tables.{nodeOf, mappingOf}
-use Rattle.notices.specs.declared.Notice.{Notice}
+use Rattle.outcome.specs.Told.{Told, noticeBy, putNotice}
 use Rattle.notices.specs.declared.Due.{Due}
 use Rattle.notices.specs.declared.Due.the-variants.{Notice as Tell, Nothing}
-
--- the lent list and how many notices are in it
-pub record Told : Type 0 where
-  pub list : List ℕ
-  pub count : ℕ
-
-abbrev pub toldOf : List ℕ → ℕ → Told
-toldOf l c = record { list = l; count = c }
-
-abbrev pub noticeBy : ℕ → ℕ → ℕ → ℕ → Notice
-noticeBy m f p o = record { mapping = m; first = f; pages = p; op = o }
-
--- one notice more, where the list has room
-unfoldable pub putNotice : Told → Notice → Told
-putNotice t n =
-    pick (ltb (t .count) (length (t .list) / 4))
-    (toldOf (set (set (set (set (t .list) (t .count * 4) (n .mapping)) (t .count * 4 + 1) (n .first)) (t .count * 4 + 2) (n .pages)) (t .count * 4 + 3) (n .op)) (t .count + 1))
-    t
 
 -- VmMapping::range_change, vmar.rs 1015, for the pages from lo to hi: none for an empty overlap
 unfoldable pub overlapOf : Mapping → ℕ → ℕ → ℕ → Due

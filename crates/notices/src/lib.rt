@@ -1,21 +1,11 @@
 // Notices to mappings: range_change of an object (paged.rs 646 to 666) and of a mapping (vmar.rs 1010 to 1036), in pages.
 use node::Node;
+use outcome::Notice;
 use tables::Mapping;
 ghost use mathlib.Core.Path.{_≡_};
 ghost use Prim.Native.Nat.{max, min};
-ghost use Rattle.notices.specs.Notices.{toldOf, putNotice, overlapOf, tellPlace, tellObject, childOf, rangeChange};
-
-pub const UNMAP: u32 = 1;
-
-pub const REMOVE_WRITE: u32 = 2;
-
-// A mapping's number, the first page in it, how many pages, and what is due.
-pub struct Notice {
-    pub mapping: u32,
-    pub first: u32,
-    pub pages: u32,
-    pub op: u32,
-}
+ghost use Rattle.outcome.specs.Told.{toldOf};
+ghost use Rattle.notices.specs.Notices.{overlapOf, tellPlace, tellObject, childOf, rangeChange};
 
 pub enum Due {
     Notice(Notice),
@@ -45,21 +35,6 @@ fn smaller(a: u64, b: u64) -> u64
         return a;
     }
     b
-}
-
-// The next place of the list, where there is one; how many are there then.
-fn put_notice(notices: &mut [u32], count: usize, n: Notice) -> usize
-    ensures { λ r. ⌜ toldOf (now (notices .exit)) r ≡ putNotice (toldOf (now (notices .entry)) count) n ⌝ }
-{
-    if count < notices.len() / 4 {
-        let a = count * 4;
-        tables::put(notices, a, n.mapping);
-        tables::put(notices, a + 1, n.first);
-        tables::put(notices, a + 2, n.pages);
-        tables::put(notices, a + 3, n.op);
-        return count + 1;
-    }
-    count
 }
 
 // What a mapping shows of the pages.
@@ -97,7 +72,7 @@ fn tell_place(
     if m.object == object {
         let due = overlap(m, span);
         match due {
-            Due::Notice(n) => return put_notice(notices, count, n),
+            Due::Notice(n) => return outcome::put_notice(notices, count, n),
             Due::Nothing => return count,
         }
     }

@@ -4,6 +4,7 @@ use mathlib.Core.Bool.{true, false}
 use mathlib.Core.List.{List, []}
 use Prim.Native.Nat.{ℕ, _+_, _-_, _*_, _/_, _≤_, _<_}
 use native.Mathlib.Omega.{arith}
+use Rattle.node.specs.Node.{byteLimit}
 use Rattle.blocks.specs.declared.BlockIter.{BlockIter}
 use Rattle.blocks.specs.declared.BlockRange.{BlockRange}
 use Rattle.blocks.specs.declared.Next.{Next}
@@ -11,16 +12,16 @@ use Rattle.blocks.specs.declared.Next.the-variants.{Block, Done}
 use Rattle.blocks.specs.Blocks.{nextOf}
 use Rattle.blocks.proofs.Cut.{First, first-of}
 use Rattle.frames.specs.Frames.{pastedAt, blankAt}
-use Rattle.notices.specs.Notices.{Told, toldOf}
+use Rattle.outcome.specs.Told.{Told, toldOf}
 use Rattle.lookup.specs.declared.Looked.{Looked}
 use Rattle.lookup.specs.declared.Looked.the-variants.{Shared, Zero, Own, New, NoMemory, Stopped}
 use Rattle.lookup.specs.Work.{Work, workOf, Looking, lookingOf}
 use Rattle.lookup.specs.Lookup.{look}
-use Rattle.pool.specs.declared.answer.Refusal.{Refusal}
-use Rattle.pool.specs.declared.answer.Against.{Against}
-use Rattle.pool.specs.declared.answer.Against.the-variants.{Why, Nothing as Fine}
+use Rattle.outcome.specs.declared.answer.Refusal.{Refusal}
+use Rattle.outcome.specs.declared.answer.Against.{Against}
+use Rattle.outcome.specs.declared.answer.Against.the-variants.{Why, Nothing as Fine}
 use Rattle.page.specs.Each.{partOf}
-use Rattle.page.specs.Pages.{againstWrite, storedBy, wrotePage, writeBy, writePage, committedPage, commitPage, readOf, againstRead, fetchedBy, readThrough, glanceOf, quiet, lookRead, readBy, readPage}
+use Rattle.page.specs.Pages.{againstWrite, storedBy, wrotePage, writeBy, writePage, committedOne, commitOne, readOf, againstRead, fetchedBy, readThrough, glanceOf, quiet, lookRead, readBy, readPage}
 
 -- bytes into a frame
 module _ (Y bytes : List ℕ) (from : ℕ) (b : BlockRange) (P U : List ℕ) (t : Told) {k : Looked} where
@@ -46,13 +47,13 @@ module _ (offset : ℕ) (it : BlockIter) {nx : Next} {b : BlockRange} {rest : Bl
   pub block-first : First it b rest
   block-first = first-of it e h
 
-  pub block-number : it .end ≤ 17592186044416 → b .block < 4294967296
+  pub block-number : it .end ≤ byteLimit → b .block < 4294967296
   block-number l = let f = block-first in omega (arith, l, f .starts, f .goes-on, f .within, f .some)
 
-  pub block-small : offset ≤ it .begin → it .end ≤ 17592186044416 → (b .begin ≤ b .end) × (b .end ≤ 4096) × (it .begin - offset ≤ 17592186044416)
+  pub block-small : offset ≤ it .begin → it .end ≤ byteLimit → (b .begin ≤ b .end) × (b .end ≤ 4096) × (it .begin - offset ≤ byteLimit)
   block-small o l = let f = block-first in (omega (arith, f .some), f .inside, omega (arith, l, f .starts, f .goes-on, f .within, f .some))
 
-  pub rest-fits : offset ≤ it .begin → it .end ≤ 17592186044416 → (offset ≤ rest .begin) × (rest .end ≤ 17592186044416)
+  pub rest-fits : offset ≤ it .begin → it .end ≤ byteLimit → (offset ≤ rest .begin) × (rest .end ≤ byteLimit)
   rest-fits o l = let f = block-first in (omega (arith, o, f .starts, f .goes-on, f .some), omega (arith, l, f .to-end))
 
 -- one page of a write
@@ -72,12 +73,12 @@ module _ (N M : List ℕ) (node offset : ℕ) (bytes : List ℕ) (it : BlockIter
 
 -- one page of a commit
 module _ (N M : List ℕ) (node i : ℕ) (w : Work) {k : Looked} {v : Work} {a : Against} (l : lookingOf k v ≡ look 4096 64 N M w node i true node) (g : a ≡ againstWrite k) where
-  pub commit-stops : {r : Refusal} → a ≡ Why r → partOf (Why r) i v ≡ commitPage 4096 N M node i w
-  unfolding commitPage committedPage
+  pub commit-stops : {r : Refusal} → a ≡ Why r → partOf (Why r) i v ≡ commitOne 4096 N M node i w
+  unfolding commitOne committedOne
   commit-stops t = rw (← l, sym g ∙ t)
 
-  pub commit-on : a ≡ Fine → partOf Fine (i + 1) v ≡ commitPage 4096 N M node i w
-  unfolding commitPage committedPage
+  pub commit-on : a ≡ Fine → partOf Fine (i + 1) v ≡ commitOne 4096 N M node i w
+  unfolding commitOne committedOne
   commit-on t = rw (← l, sym g ∙ t)
 
 -- one page of a read

@@ -1,7 +1,7 @@
 -- for_each_page, 500, and the loop of commit, 301: a step for each page, up to the first that is refused.
 use Prim.Native.Nat.{ℕ, zero, suc}
-use Rattle.pool.specs.declared.answer.Against.{Against}
-use Rattle.pool.specs.declared.answer.Against.the-variants.{Why, Nothing as Fine}
+use Rattle.outcome.specs.declared.answer.Against.{Against}
+use Rattle.outcome.specs.declared.answer.Against.the-variants.{Why, Nothing as Fine}
 
 -- what stands against the next page; where the next page is; what the pages so far have left
 pub record Part (C S : Type 0) : Type 0 where

@@ -8,14 +8,14 @@ use Rattle.blocks.specs.declared.Next.{Next}
 use Rattle.blocks.specs.declared.Next.the-variants.{Block, Done}
 use Rattle.blocks.specs.Blocks.{nextOf}
 use Rattle.frames.specs.Frames.{pastedAt, blankAt}
-use Rattle.notices.specs.Notices.{toldOf}
+use Rattle.outcome.specs.Told.{toldOf}
 use Rattle.lookup.specs.declared.Looked.{Looked}
 use Rattle.lookup.specs.declared.Looked.the-variants.{Shared, Zero, Own, New, NoMemory, Stopped}
 use Rattle.lookup.specs.Work.{Work, workOf, Looking}
 use Rattle.lookup.specs.Lookup.{look}
-use Rattle.pool.specs.declared.answer.Refusal as R
-use Rattle.pool.specs.declared.answer.Against.{Against}
-use Rattle.pool.specs.declared.answer.Against.the-variants.{Why, Nothing as Fine}
+use Rattle.outcome.specs.declared.answer.Refusal as R
+use Rattle.outcome.specs.declared.answer.Against.{Against}
+use Rattle.outcome.specs.declared.answer.Against.the-variants.{Why, Nothing as Fine}
 use Rattle.page.specs.Each.{Part, partOf}
 
 -- a write's page: lookup for writing always gives a frame or refuses
@@ -55,11 +55,11 @@ unfoldable pub writePage : ℕ → List ℕ → List ℕ → ℕ → ℕ → Lis
 writePage L N M node offset bytes it w = writeBy L N M node offset bytes it w (nextOf L it)
 
 -- commit, 301: the page is looked up for writing
-unfoldable pub committedPage : ℕ → Looking → Part ℕ Work
-committedPage i l = partOf (againstWrite (l .answer)) (restBy (againstWrite (l .answer)) i (i + 1)) (l .work)
+unfoldable pub committedOne : ℕ → Looking → Part ℕ Work
+committedOne i l = partOf (againstWrite (l .answer)) (restBy (againstWrite (l .answer)) i (i + 1)) (l .work)
 
-unfoldable pub commitPage : ℕ → List ℕ → List ℕ → ℕ → ℕ → Work → Part ℕ Work
-commitPage L N M node i w = committedPage i (look L 64 N M w node i true node)
+unfoldable pub commitOne : ℕ → List ℕ → List ℕ → ℕ → ℕ → Work → Part ℕ Work
+commitOne L N M node i w = committedOne i (look L 64 N M w node i true node)
 
 -- what a read may change: a page may move, and the buffer is filled
 pub record Read : Type 0 where

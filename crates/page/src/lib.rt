@@ -3,9 +3,9 @@ mod reading;
 mod writing;
 
 use blocks::BlockIter;
-use pool::Against;
+use outcome::Against;
 pub use reading::read_page;
-pub use writing::commit_page;
+pub use writing::commit_one;
 pub use writing::write_page;
 
 // What stands against a page, where the next one is, and how many notices the list has by then.

@@ -4,10 +4,11 @@ use blocks::BlockIter;
 use blocks::BlockRange;
 use blocks::Next;
 use lookup::Looked;
-use pool::Against;
-use pool::Refusal;
+use outcome::Against;
+use outcome::Refusal;
 ghost use mathlib.Core.Path.{_≡_};
 ghost use Prim.Native.Nat.{_≤_};
+ghost use Rattle.node.specs.Node.{byteLimit};
 ghost use Rattle.page.specs.Each.{partOf};
 ghost use Rattle.page.specs.Pages.{readOf, againstRead, fetchedBy, glanceOf, lookRead, readPage};
 
@@ -26,7 +27,7 @@ fn against_read(looked: Looked) -> Against
 
 // The block of the page's frame, or zeros, to its place in the buffer.
 fn fetch(memory: &[u8], looked: Looked, b: BlockRange, buf: &mut [u8], to: u64)
-    requires { ⌜ (b .begin ≤ b .end) × (b .end ≤ 4096) × (to ≤ 17592186044416) ⌝ }
+    requires { ⌜ (b .begin ≤ b .end) × (b .end ≤ 4096) × (to ≤ byteLimit) ⌝ }
     ensures { λ _. ⌜ now (buf .exit) ≡ fetchedBy 4096 to b looked (now (memory .entry)) (now (buf .entry)) ⌝ }
 {
     match looked {
@@ -50,9 +51,9 @@ fn fetch(memory: &[u8], looked: Looked, b: BlockRange, buf: &mut [u8], to: u64)
 // Lookup for reading, which sends no notice.
 fn find_read(
     nodes: &[u32],
-    mappings: &[u32],
     pages: &mut [u32],
     used: &mut [u8],
+    mappings: &[u32],
     memory: &mut [u8],
     node: u32,
     page: u32,
@@ -79,20 +80,20 @@ fn find_read(
 
 pub fn read_page(
     nodes: &[u32],
-    mappings: &[u32],
     pages: &mut [u32],
     used: &mut [u8],
+    mappings: &[u32],
     memory: &mut [u8],
     node: u32,
     offset: u64,
     buf: &mut [u8],
     it: BlockIter,
 ) -> ReadPart
-    requires { ⌜ (offset ≤ it .begin) × (it .end ≤ 17592186044416) ⌝ }
+    requires { ⌜ (offset ≤ it .begin) × (it .end ≤ byteLimit) ⌝ }
     ensures { λ r. ⌜
         partOf (r .why) (r .rest) (readOf (now (pages .exit)) (now (used .exit)) (now (memory .exit)) (now (buf .exit)))
         ≡ readPage 4096 (now (nodes .entry)) (now (mappings .entry)) node offset it (readOf (now (pages .entry)) (now (used .entry)) (now (memory .entry)) (now (buf .entry))) ⌝ }
-    ensures fits { λ r. ⌜ (offset ≤ r .rest .begin) × (r .rest .end ≤ 17592186044416) ⌝ }
+    ensures fits { λ r. ⌜ (offset ≤ r .rest .begin) × (r .rest .end ≤ byteLimit) ⌝ }
 {
     let next = it.next();
     match next {
@@ -101,7 +102,7 @@ pub fn read_page(
             return ReadPart { why, rest: it };
         }
         Next::Block(b, rest) => {
-            let looked = find_read(nodes, mappings, pages, used, memory, node, b.block as u32);
+            let looked = find_read(nodes, pages, used, mappings, memory, node, b.block as u32);
             fetch(memory, looked, b, buf, it.begin - offset);
             let why = against_read(looked);
             match why {

@@ -5,15 +5,16 @@ use blocks::BlockIter;
 use blocks::BlockRange;
 use blocks::Next;
 use lookup::Looked;
-use pool::Against;
-use pool::Refusal;
+use outcome::Against;
+use outcome::Refusal;
 ghost use mathlib.Core.Path.{_≡_};
 ghost use mathlib.Core.List.{List};
 ghost use Prim.Native.Nat.{ℕ, _+_, _≤_, _<_};
-ghost use Rattle.notices.specs.Notices.{Told, toldOf};
+ghost use Rattle.node.specs.Node.{byteLimit};
+ghost use Rattle.outcome.specs.Told.{Told, toldOf};
 ghost use Rattle.lookup.specs.Work.{workOf};
 ghost use Rattle.page.specs.Each.{partOf};
-ghost use Rattle.page.specs.Pages.{againstWrite, storedBy, writePage, commitPage};
+ghost use Rattle.page.specs.Pages.{againstWrite, storedBy, writePage, commitOne};
 
 fn against_write(looked: Looked) -> Against
     ensures { λ r. ⌜ r ≡ againstWrite looked ⌝ }
@@ -30,7 +31,7 @@ fn against_write(looked: Looked) -> Against
 
 // The block's bytes, from `from` on, into the page's frame.
 fn store(memory: &mut [u8], looked: Looked, b: BlockRange, bytes: &[u8], from: u64)
-    requires { ⌜ (b .begin ≤ b .end) × (b .end ≤ 4096) × (from ≤ 17592186044416) ⌝ }
+    requires { ⌜ (b .begin ≤ b .end) × (b .end ≤ 4096) × (from ≤ byteLimit) ⌝ }
     ensures { λ _. ⌜ ((P U : List ℕ) (t : Told) → workOf P U (now (memory .exit)) t ≡ storedBy 4096 (now (bytes .entry)) from b looked (workOf P U (now (memory .entry)) t)) ⌝ }
 {
     match looked {
@@ -53,9 +54,9 @@ fn store(memory: &mut [u8], looked: Looked, b: BlockRange, bytes: &[u8], from: u
 
 pub fn write_page(
     nodes: &[u32],
-    mappings: &[u32],
     pages: &mut [u32],
     used: &mut [u8],
+    mappings: &[u32],
     memory: &mut [u8],
     notices: &mut [u32],
     count: usize,
@@ -64,11 +65,11 @@ pub fn write_page(
     bytes: &[u8],
     it: BlockIter,
 ) -> WritePart
-    requires { ⌜ (offset ≤ it .begin) × (it .end ≤ 17592186044416) ⌝ }
+    requires { ⌜ (offset ≤ it .begin) × (it .end ≤ byteLimit) ⌝ }
     ensures { λ r. ⌜
         partOf (r .why) (r .rest) (workOf (now (pages .exit)) (now (used .exit)) (now (memory .exit)) (toldOf (now (notices .exit)) (r .count)))
         ≡ writePage 4096 (now (nodes .entry)) (now (mappings .entry)) node offset (now (bytes .entry)) it (workOf (now (pages .entry)) (now (used .entry)) (now (memory .entry)) (toldOf (now (notices .entry)) count)) ⌝ }
-    ensures fits { λ r. ⌜ (offset ≤ r .rest .begin) × (r .rest .end ≤ 17592186044416) ⌝ }
+    ensures fits { λ r. ⌜ (offset ≤ r .rest .begin) × (r .rest .end ≤ byteLimit) ⌝ }
 {
     let next = it.next();
     match next {
@@ -109,11 +110,11 @@ pub fn write_page(
     }
 }
 
-pub fn commit_page(
+pub fn commit_one(
     nodes: &[u32],
-    mappings: &[u32],
     pages: &mut [u32],
     used: &mut [u8],
+    mappings: &[u32],
     memory: &mut [u8],
     notices: &mut [u32],
     count: usize,
@@ -123,7 +124,7 @@ pub fn commit_page(
     requires { ⌜ page < 4294967296 ⌝ }
     ensures { λ r. ⌜
         partOf (r .why) (r .rest) (workOf (now (pages .exit)) (now (used .exit)) (now (memory .exit)) (toldOf (now (notices .exit)) (r .count)))
-        ≡ commitPage 4096 (now (nodes .entry)) (now (mappings .entry)) node page (workOf (now (pages .entry)) (now (used .entry)) (now (memory .entry)) (toldOf (now (notices .entry)) count)) ⌝ }
+        ≡ commitOne 4096 (now (nodes .entry)) (now (mappings .entry)) node page (workOf (now (pages .entry)) (now (used .entry)) (now (memory .entry)) (toldOf (now (notices .entry)) count)) ⌝ }
     ensures near { λ r. ⌜ r .rest ≤ page + 1 ⌝ }
 {
     let step = seek::find_page(

@@ -10,7 +10,7 @@ use Rattle.tables.specs.Pool.{Pool}
 use Rattle.seek.specs.declared.Sought.{Sought}
 use Rattle.seek.specs.declared.Sought.the-variants.{Shared, Zero, Absent, Moves, Stops}
 use Rattle.seek.specs.Seek.{seekPage}
-use Rattle.pool.specs.Answers.{unless}
+use Rattle.outcome.specs.Answers.{unless}
 use Rattle.pool.specs.Calls.{onNode}
 use Rattle.ranges.specs.Ranges.{againstReading}
 use Rattle.peek.specs.declared.Place.{Place}

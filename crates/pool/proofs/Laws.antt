@@ -1,23 +1,30 @@
 -- One law for each way through the calls. Assumes nothing.
 use mathlib.Core.Path.{_≡_, refl, sym, ap, _∙_}
-use mathlib.Core.Bool.{Bool, true, false}
+use mathlib.Core.Bool.{Bool, true, false, _&&_}
 use mathlib.Core.List.{List, [], _∷_, _++_}
 use Prim.Native.Nat.{ℕ, _+_, _*_, _≤_, _<_}
+use native.Mathlib.Omega.{arith}
+use lib.Dec.{ltb}
 use lib.ListN.{length, getD, set, drop, replicate}
 use lib.Seq.{drop-length}
 use borrow.Author.Tests.{le-leb, lt-leb, lt-ltb, le-ltb}
 use borrow.Author.Fill.{fill-more}
 use Rattle.logic.specs.declared.Found.{Found}
-use Rattle.logic.specs.declared.Found.the-variants.{At, Nothing}
+use Rattle.logic.specs.declared.Found.the-variants.{At as Free, Nothing}
 use Rattle.node.specs.declared.Node.{Node}
-use Rattle.node.specs.Node.{leafOf, originNode}
+use Rattle.node.specs.Node.{lastOwner, leafOf, originNode}
 use Rattle.tables.specs.Pool.{Pool, poolOf}
 use Rattle.tables.specs.Tables.{nodeOf, withNode, freeNodeIn}
 use Rattle.sound.specs.Sound.{lengthsOk, sound}
-use Rattle.pool.specs.declared.answer.Answer.the-variants.{Done, Refused}
-use Rattle.pool.specs.declared.answer.Refusal.{Refusal}
-use Rattle.pool.specs.declared.answer.Refusal.the-variants.{InvalidArgs, BadPool, NoObject, NoNode}
-use Rattle.pool.specs.Calls.{Call, callOf, refused, freshPool, start, leafAt, newLeaf, new, findObject, atNode, onNode}
+use Rattle.outcome.specs.declared.answer.Answer.{Answer}
+use Rattle.outcome.specs.declared.answer.Answer.the-variants.{Done, Refused as No}
+use Rattle.outcome.specs.declared.answer.Refusal.{Refusal}
+use Rattle.outcome.specs.declared.answer.Refusal.the-variants.{InvalidArgs, BadPool, NoObject, NoNode}
+use Rattle.outcome.specs.declared.reply.Reply.{Reply}
+use Rattle.outcome.specs.Outcome.{Outcome, outcome, replyOf}
+use Rattle.pool.specs.declared.entering.Entered.{Entered}
+use Rattle.pool.specs.declared.entering.Entered.the-variants.{At, Refused}
+use Rattle.pool.specs.Calls.{freshPool, start, leafAt, newLeaf, new, entered, onEntered, onObject}
 
 append-nil : (l : List ℕ) → l ++ [] ≡ l
 append-nil [] = refl
@@ -29,60 +36,75 @@ fill-turn d k e h = rw e (fill-more k 0 d h)
 pub fill-end : (d : List ℕ) {s : List ℕ} {k : ℕ} → s ≡ replicate k 0 ++ drop k d → k ≡ length d → s ≡ replicate (length d) 0
 fill-end d e h = e ∙ rw (h, drop-length d) (append-nil (replicate (length d) 0))
 
-module _ (nodes : List ℕ) (object : ℕ) {n : Node} {b : Bool} where
-  pub finds-leaf : object < 64 → n ≡ nodeOf nodes object → b ≡ leafOf n → b ≡ true → At object ≡ findObject nodes object
-  unfolding findObject
-  finds-leaf h e l t = rw (lt-ltb _ _ h, ← e, sym l ∙ t)
+-- the ways into a call on an object
+other : {r : Refusal} {n : ℕ} {A : Type 0} → Refused r ≡ At n → A
+other h = let z : _≡_ {A = ℕ} 0 1 = cc in absurd (omega arith)
 
-  pub finds-none : object < 64 → n ≡ nodeOf nodes object → b ≡ leafOf n → b ≡ false → Nothing ≡ findObject nodes object
-  unfolding findObject
-  finds-none h e l t = rw (lt-ltb _ _ h, ← e, sym l ∙ t)
+pub not-at : {r : Refusal} (n : ℕ) → Refused r ≡ At n → n < 64
+not-at n h = other h
 
-module _ (N P U M H Y : List ℕ) (size : ℕ) where
-  pub leaf-new : {N′ H′ : List ℕ} {o i : ℕ} {f : Found} {n : Node} → o ≡ getD H 0 0 → o ≤ 16777215 → f ≡ freeNodeIn N → f ≡ At i → n ≡ originNode size o → N′ ≡ withNode N i n → H′ ≡ set H 0 (o + 1) → callOf (Done i) (poolOf N′ P U M H′ Y) ≡ newLeaf (poolOf N P U M H Y) size
+pub at-small : (object : ℕ) → object < 64 → (n : ℕ) → At object ≡ At n → n < 64
+at-small object l n h = let e : object ≡ n = cc in omega arith
+
+module _ (L : ℕ) (p : Pool) (object : ℕ) {b : Bool} (t : b ≡ sound L p) where
+  pub enter-bad : b ≡ false → Refused BadPool ≡ entered L p object
+  unfolding entered
+  enter-bad h = rw (sym t ∙ h)
+
+  pub enter-far : b ≡ true → 64 ≤ object → Refused NoObject ≡ entered L p object
+  unfolding entered
+  enter-far h l = rw (sym t ∙ h, le-ltb _ _ l)
+
+  module _ {n : Node} {f : Bool} (h : b ≡ true) (l : object < 64) (e : n ≡ nodeOf (p .nodes) object) (g : f ≡ leafOf n) where
+    pub enter-leaf : f ≡ true → At object ≡ entered L p object
+    unfolding entered
+    enter-leaf k = rw (sym t ∙ h, lt-ltb _ _ l, ← e, sym g ∙ k)
+
+    pub enter-none : f ≡ false → Refused NoObject ≡ entered L p object
+    unfolding entered
+    enter-none k = rw (sym t ∙ h, lt-ltb _ _ l, ← e, sym g ∙ k)
+
+-- the ways through a call on an object
+module _ {A : Type 0} (L : ℕ) (p : Pool) (object : ℕ) (refuse : Refusal → A) (does : ℕ → A) {e : Entered} (t : e ≡ entered L p object) where
+  pub object-step : {n : ℕ} {c : A} → e ≡ At n → c ≡ does n → c ≡ onObject L p object refuse does
+  unfolding onObject onEntered
+  object-step h a = rw (sym t ∙ h) a
+
+  pub object-refused : {r : Refusal} → e ≡ Refused r → refuse r ≡ onObject L p object refuse does
+  unfolding onObject onEntered
+  object-refused h = rw (sym t ∙ h)
+
+module _ (N P U M H Y : List ℕ) (size : ℕ) {r : Reply} where
+  pub leaf-new : {N′ H′ : List ℕ} {o i : ℕ} {f : Found} {n : Node} → o ≡ getD H 0 0 → o ≤ lastOwner → f ≡ freeNodeIn N → f ≡ Free i → n ≡ originNode size o → N′ ≡ withNode N i n → H′ ≡ set H 0 (o + 1) → r ≡ replyOf (Done i) → outcome r (poolOf N′ P U M H′ Y) [] [] ≡ newLeaf (poolOf N P U M H Y) size
   unfolding newLeaf leafAt
-  leaf-new e l f t n a b = rw (a, b, n, e, le-leb _ _ (rw e at l), sym f ∙ t)
+  leaf-new e l f t n a b r = rw (r, a, b, n, e, le-leb _ _ (rw e at l), sym f ∙ t)
 
-  pub leaf-full : {o : ℕ} {f : Found} → o ≡ getD H 0 0 → o ≤ 16777215 → f ≡ freeNodeIn N → f ≡ Nothing → refused NoNode (poolOf N P U M H Y) ≡ newLeaf (poolOf N P U M H Y) size
+  pub leaf-full : {o : ℕ} {f : Found} → o ≡ getD H 0 0 → o ≤ lastOwner → f ≡ freeNodeIn N → f ≡ Nothing → r ≡ replyOf (No NoNode) → outcome r (poolOf N P U M H Y) [] [] ≡ newLeaf (poolOf N P U M H Y) size
   unfolding newLeaf leafAt
-  leaf-full e l f t = rw (le-leb _ _ (rw e at l), sym f ∙ t)
+  leaf-full e l f t r = rw (r, le-leb _ _ (rw e at l), sym f ∙ t)
 
-  pub leaf-owners : {o : ℕ} → o ≡ getD H 0 0 → 16777215 < o → refused NoNode (poolOf N P U M H Y) ≡ newLeaf (poolOf N P U M H Y) size
+  pub leaf-owners : {o : ℕ} → o ≡ getD H 0 0 → lastOwner < o → r ≡ replyOf (No NoNode) → outcome r (poolOf N P U M H Y) [] [] ≡ newLeaf (poolOf N P U M H Y) size
   unfolding newLeaf
-  leaf-owners e l = rw (lt-leb _ _ (rw e at l))
+  leaf-owners e l r = rw (r, lt-leb _ _ (rw e at l))
 
 module _ (L : ℕ) (p : Pool) {b : Bool} (t : b ≡ sound L p) where
-  pub new-step : (size : ℕ) {c : Call} → b ≡ true → size ≤ 64 → c ≡ newLeaf p size → c ≡ new L p size
+  pub new-step : (size : ℕ) {c : Outcome Answer} → b ≡ true → size ≤ 64 → c ≡ newLeaf p size → c ≡ new L p size
   unfolding new
   new-step size h l e = rw (sym t ∙ h, le-leb _ _ l) e
 
-  pub new-large : (size : ℕ) → b ≡ true → 64 < size → refused InvalidArgs p ≡ new L p size
+  pub new-large : (size : ℕ) {r : Reply} → b ≡ true → 64 < size → r ≡ replyOf (No InvalidArgs) → outcome r p [] [] ≡ new L p size
   unfolding new
-  new-large size h l = rw (sym t ∙ h, lt-leb _ _ l)
+  new-large size h l r = rw (r, sym t ∙ h, lt-leb _ _ l)
 
-  pub new-bad : (size : ℕ) → b ≡ false → refused BadPool p ≡ new L p size
+  pub new-bad : (size : ℕ) {r : Reply} → b ≡ false → r ≡ replyOf (No BadPool) → outcome r p [] [] ≡ new L p size
   unfolding new
-  new-bad size h = rw (sym t ∙ h)
+  new-bad size h r = rw (r, sym t ∙ h)
 
--- the ways through a call on an object
-module _ {A : Type 0} (L : ℕ) (p : Pool) (object : ℕ) (refuse : Refusal → A) (does : ℕ → A) {b : Bool} (t : b ≡ sound L p) where
-  pub object-step : {f : Found} {n : ℕ} {c : A} → b ≡ true → f ≡ findObject (p .nodes) object → f ≡ At n → c ≡ does n → c ≡ onNode L p object refuse does
-  unfolding onNode atNode
-  object-step h f e a = rw (sym t ∙ h, sym f ∙ e) a
-
-  pub object-none : {f : Found} → b ≡ true → f ≡ findObject (p .nodes) object → f ≡ Nothing → refuse NoObject ≡ onNode L p object refuse does
-  unfolding onNode atNode
-  object-none h f e = rw (sym t ∙ h, sym f ∙ e)
-
-  pub object-bad : b ≡ false → refuse BadPool ≡ onNode L p object refuse does
-  unfolding onNode
-  object-bad h = rw (sym t ∙ h)
-
-module _ (L : ℕ) (N P U M H Y : List ℕ) {b : Bool} (t : b ≡ lengthsOk L (poolOf N P U M H Y)) where
-  pub start-fresh : {N′ P′ U′ M′ H′ H″ : List ℕ} → b ≡ true → N′ ≡ replicate (length N) 0 → P′ ≡ replicate (length P) 0 → U′ ≡ replicate (length U) 0 → M′ ≡ replicate (length M) 0 → H′ ≡ replicate (length H) 0 → H″ ≡ set H′ 0 1 → callOf (Done 0) (poolOf N′ P′ U′ M′ H″ Y) ≡ start L (poolOf N P U M H Y)
+module _ (L : ℕ) (N P U M H Y : List ℕ) {b : Bool} {r : Reply} (t : b ≡ lengthsOk L (poolOf N P U M H Y)) where
+  pub start-fresh : {N′ P′ U′ M′ H′ H″ : List ℕ} → b ≡ true → N′ ≡ replicate (length N) 0 → P′ ≡ replicate (length P) 0 → U′ ≡ replicate (length U) 0 → M′ ≡ replicate (length M) 0 → H′ ≡ replicate (length H) 0 → H″ ≡ set H′ 0 1 → r ≡ replyOf (Done 0) → outcome r (poolOf N′ P′ U′ M′ H″ Y) [] [] ≡ start L (poolOf N P U M H Y)
   unfolding start freshPool
-  start-fresh h n p u m e f = rw (sym t ∙ h, n, p, u, m, f, e)
+  start-fresh h n p u m e f r = rw (r, sym t ∙ h, n, p, u, m, f, e)
 
-  pub start-bad : b ≡ false → refused BadPool (poolOf N P U M H Y) ≡ start L (poolOf N P U M H Y)
+  pub start-bad : b ≡ false → r ≡ replyOf (No BadPool) → outcome r (poolOf N P U M H Y) [] [] ≡ start L (poolOf N P U M H Y)
   unfolding start
-  start-bad h = rw (sym t ∙ h)
+  start-bad h r = rw (r, sym t ∙ h)

@@ -1,15 +1,18 @@
 // The calls. Each tests the pool, the object and the arguments in document 01's order, and then makes one step.
-mod answer;
+mod entering;
 mod steps;
 
-pub use answer::Against;
-pub use answer::Answer;
-pub use answer::Refusal;
-use logic::Found;
-pub use steps::find_object;
+pub use entering::Entered;
+pub use entering::enter;
+use node::Node;
+use outcome::Answer;
+use outcome::Refusal;
+use outcome::Reply;
 ghost use mathlib.Core.Path.{_≡_};
+ghost use mathlib.Core.List.{[]};
+ghost use Rattle.outcome.specs.Outcome.{outcome};
 ghost use Rattle.tables.specs.Pool.{poolOf};
-ghost use Rattle.pool.specs.Calls.{callOf, start, new, len};
+ghost use Rattle.pool.specs.Calls.{start, new, len};
 
 // Fills the lent tables as a fresh pool and leaves the memory as it is.
 pub fn start(
@@ -19,9 +22,9 @@ pub fn start(
     mappings: &mut [u32],
     head: &mut [u32],
     memory: &[u8],
-) -> Answer
+) -> Reply
     ensures { λ r. ⌜
-        callOf r (poolOf (now (nodes .exit)) (now (pages .exit)) (now (used .exit)) (now (mappings .exit)) (now (head .exit)) (now (memory .entry)))
+        outcome r (poolOf (now (nodes .exit)) (now (pages .exit)) (now (used .exit)) (now (mappings .exit)) (now (head .exit)) (now (memory .entry))) [] []
         ≡ start 4096 (poolOf (now (nodes .entry)) (now (pages .entry)) (now (used .entry)) (now (mappings .entry)) (now (head .entry)) (now (memory .entry))) ⌝ }
 {
     if sound::lengths_ok(nodes, pages, used, mappings, head, memory) {
@@ -31,9 +34,9 @@ pub fn start(
         steps::clear(mappings);
         steps::clear(head);
         tables::put(head, 0, 1);
-        return Answer::Done(0);
+        return Reply::of(Answer::Done(0));
     }
-    Answer::Refused(Refusal::BadPool)
+    Reply::refused(Refusal::BadPool)
 }
 
 // A fresh object of so many pages.
@@ -45,18 +48,18 @@ pub fn new(
     head: &mut [u32],
     memory: &[u8],
     size: u64,
-) -> Answer
+) -> Reply
     ensures { λ r. ⌜
-        callOf r (poolOf (now (nodes .exit)) (now (pages .entry)) (now (used .entry)) (now (mappings .entry)) (now (head .exit)) (now (memory .entry)))
+        outcome r (poolOf (now (nodes .exit)) (now (pages .entry)) (now (used .entry)) (now (mappings .entry)) (now (head .exit)) (now (memory .entry))) [] []
         ≡ new 4096 (poolOf (now (nodes .entry)) (now (pages .entry)) (now (used .entry)) (now (mappings .entry)) (now (head .entry)) (now (memory .entry))) size ⌝ }
 {
     if sound::is_sound(nodes, pages, used, mappings, head, memory) {
-        if size <= 64 {
+        if size <= Node::MAX_PAGES as u64 {
             return steps::new_leaf(nodes, head, size as u32);
         }
-        return Answer::Refused(Refusal::InvalidArgs);
+        return Reply::refused(Refusal::InvalidArgs);
     }
-    Answer::Refused(Refusal::BadPool)
+    Reply::refused(Refusal::BadPool)
 }
 
 // An object's length in bytes.
@@ -68,16 +71,14 @@ pub fn len(
     head: &[u32],
     memory: &[u8],
     object: u64,
-) -> Answer
+) -> Reply
     ensures { λ r. ⌜
-        callOf r (poolOf (now (nodes .entry)) (now (pages .entry)) (now (used .entry)) (now (mappings .entry)) (now (head .entry)) (now (memory .entry)))
+        outcome r (poolOf (now (nodes .entry)) (now (pages .entry)) (now (used .entry)) (now (mappings .entry)) (now (head .entry)) (now (memory .entry))) [] []
         ≡ len 4096 (poolOf (now (nodes .entry)) (now (pages .entry)) (now (used .entry)) (now (mappings .entry)) (now (head .entry)) (now (memory .entry))) object ⌝ }
 {
-    if sound::is_sound(nodes, pages, used, mappings, head, memory) {
-        match steps::find_object(nodes, object) {
-            Found::At(node) => return steps::len_of(nodes, node),
-            Found::Nothing => return Answer::Refused(Refusal::NoObject),
-        }
+    let entered = enter(nodes, pages, used, mappings, head, memory, object);
+    match entered {
+        Entered::At(node) => return Reply::of(steps::len_of(nodes, node)),
+        Entered::Refused(why) => return Reply::refused(why),
     }
-    Answer::Refused(Refusal::BadPool)
 }

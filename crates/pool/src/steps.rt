@@ -1,15 +1,17 @@
 // The steps of the calls, after their tests.
-use crate::answer::Answer;
-use crate::answer::Refusal;
 use logic::Found;
 use node::Node;
+use outcome::Answer;
+use outcome::Refusal;
+use outcome::Reply;
 ghost use mathlib.Core.Path.{_≡_};
-ghost use mathlib.Core.List.{List};
+ghost use mathlib.Core.List.{List, []};
 ghost use Prim.Native.Nat.{ℕ, _*_};
 ghost use lib.ListN.{length, replicate};
+ghost use Rattle.outcome.specs.Outcome.{outcome};
 ghost use Rattle.tables.specs.Pool.{poolOf};
 ghost use Rattle.tables.specs.Tables.{nodeOf};
-ghost use Rattle.pool.specs.Calls.{callOf, findObject, newLeaf, lenOf};
+ghost use Rattle.pool.specs.Calls.{newLeaf, lenOf};
 
 pub fn clear(s: &mut [u32])
     ensures { λ _. ⌜ now (s .exit) ≡ replicate (length (now (s .entry))) 0 ⌝ }
@@ -31,39 +33,25 @@ pub fn clear_flags(s: &mut [u8])
     }
 }
 
-// The node of an object's number: a live leaf.
-pub fn find_object(nodes: &[u32], object: u64) -> Found
-    ensures { λ r. ⌜ r ≡ findObject (now (nodes .entry)) object ⌝ }
-{
-    if object < 64 {
-        let node = object as u32;
-        let n = tables::node_at(nodes, node);
-        if n.is_leaf() {
-            return Found::At(node);
-        }
-    }
-    Found::Nothing
-}
-
 // The lowest free node becomes an origin; its owner number is the next.
-pub fn new_leaf(nodes: &mut [u32], head: &mut [u32], size: u32) -> Answer
+pub fn new_leaf(nodes: &mut [u32], head: &mut [u32], size: u32) -> Reply
     ensures { λ r. ⌜ ((pages used mappings memory : List ℕ) →
-        callOf r (poolOf (now (nodes .exit)) pages used mappings (now (head .exit)) memory)
+        outcome r (poolOf (now (nodes .exit)) pages used mappings (now (head .exit)) memory) [] []
         ≡ newLeaf (poolOf (now (nodes .entry)) pages used mappings (now (head .entry)) memory) size) ⌝ }
 {
     let owner = tables::at(head, 0);
-    if owner <= 16777215 {
+    if owner <= Node::LAST_OWNER {
         let found = tables::free_node(nodes);
         match found {
             Found::At(i) => {
                 tables::set_node(nodes, i, Node::origin(size, owner));
                 tables::put(head, 0, owner + 1);
-                return Answer::Done(i as u64);
+                return Reply::of(Answer::Done(i as u64));
             }
-            Found::Nothing => return Answer::Refused(Refusal::NoNode),
+            Found::Nothing => return Reply::refused(Refusal::NoNode),
         }
     }
-    Answer::Refused(Refusal::NoNode)
+    Reply::refused(Refusal::NoNode)
 }
 
 pub fn len_of(nodes: &[u32], node: u32) -> Answer

@@ -1,7 +1,7 @@
 -- One law for each way through the loops and the calls. Assumes nothing.
 use mathlib.Core.Path.{_≡_, refl, sym, _∙_}
 use mathlib.Core.Bool.{Bool, true, false, not}
-use mathlib.Core.List.{List}
+use mathlib.Core.List.{List, []}
 use Prim.Native.Nat.{ℕ, zero, suc, _+_, _-_, _*_, _/_, _%_, _≤_, _<_}
 use native.Mathlib.Omega.{arith}
 use lib.Dec.{eqb, leb}
@@ -9,24 +9,26 @@ use lib.ListN.{length}
 use borrow.Author.Tests.{le-leb, lt-leb, leb-true, leb-false}
 use Rattle.logic.specs.Pick.{pick}
 use Rattle.node.specs.declared.Node.{Node}
+use Rattle.node.specs.Node.{byteLimit, cachedOf, containsOf}
 use Rattle.blocks.specs.declared.BlockIter.{BlockIter}
 use Rattle.blocks.specs.Blocks.{iterOf, pagesOf, countOf}
 use Rattle.tables.specs.Pool.{poolOf}
 use Rattle.tables.specs.Tables.{nodeOf}
 use Rattle.frames.specs.Frames.{freeCount}
-use Rattle.notices.specs.Notices.{toldOf}
+use Rattle.outcome.specs.Told.{toldOf}
 use Rattle.lookup.specs.Work.{Work, workOf}
-use Rattle.pool.specs.declared.answer.Answer.{Answer}
-use Rattle.pool.specs.declared.answer.Answer.the-variants.{Done, Refused}
-use Rattle.pool.specs.declared.answer.Refusal.{Refusal}
-use Rattle.pool.specs.declared.answer.Refusal.the-variants.{BadState, OutOfRange, NoRoom}
-use Rattle.pool.specs.declared.answer.Against.{Against}
-use Rattle.pool.specs.declared.answer.Against.the-variants.{Why, Nothing as Fine}
-use Rattle.commit.specs.Noted.{roomOf}
-use Rattle.ranges.specs.declared.Ranged.{Ranged}
+use Rattle.outcome.specs.declared.answer.Answer.{Answer}
+use Rattle.outcome.specs.declared.answer.Answer.the-variants.{Done, Refused}
+use Rattle.outcome.specs.declared.answer.Refusal.{Refusal}
+use Rattle.outcome.specs.declared.answer.Refusal.the-variants.{BadState, OutOfRange, NoRoom}
+use Rattle.outcome.specs.declared.answer.Against.{Against}
+use Rattle.outcome.specs.declared.answer.Against.the-variants.{Why, Nothing as Fine}
+use Rattle.outcome.specs.Room.{roomOf}
+use Rattle.outcome.specs.declared.reply.Reply.{Reply}
+use Rattle.outcome.specs.Outcome.{outcomeOf, outcome, replyOf}
 use Rattle.page.specs.Each.{Part, partOf, onward, each}
-use Rattle.page.specs.Pages.{Read, readOf, readPage, writePage, commitPage}
-use Rattle.ranges.specs.Ranges.{insideOf, cachedOf, rangingOf, refusedBy, answerBy, rangedBy, againstWriting, writeRange, written, writeThrough, writeAt, againstCommitting, commitRange, committed, commitThrough, commitAt, filledOf, againstReading, readRange, filled, readAt}
+use Rattle.page.specs.Pages.{Read, readOf, readPage, writePage, commitOne}
+use Rattle.ranges.specs.Ranges.{answerBy, rangedBy, againstWriting, writeRange, written, writeThrough, writeAt, againstCommitting, commitRange, committed, commitThrough, commitAt, againstReading, readRange, filled, readAt}
 
 -- the loop over pages
 module _ {C S : Type 0} (step : C → S → Part C S) (c : C) (s : S) where
@@ -46,35 +48,15 @@ module _ {C S : Type 0} (step : C → S → Part C S) (c : C) (s : S) where
     each-next (suc k) j p h = let g : k ≡ j = omega (arith, p) in rw (← e, h, g)
 
 -- the tests
-shift-by : (a b c : ℕ) (t : Bool) → leb a (b - c) ≡ t → c ≤ b → t ≡ leb (a + c) b
-shift-by a b c true t h = let l = leb-true a (b - c) t in sym (le-leb (a + c) b (omega (arith, l, h)))
-shift-by a b c false t h = let l = leb-false a (b - c) t in sym (lt-leb (a + c) b (omega (arith, l, h)))
-
-module _ (N : List ℕ) (node offset len : ℕ) {n : Node} (e : n ≡ nodeOf N node) where
-  pub inside-short : n .size * 4096 < len → false ≡ insideOf 4096 N node offset len
-  unfolding insideOf
-  inside-short h = rw (← e) (sym (lt-leb (offset + len) (n .size * 4096) (omega (arith, h))))
-
-  pub inside-by : len ≤ n .size * 4096 → leb offset (n .size * 4096 - len) ≡ insideOf 4096 N node offset len
-  unfolding insideOf
-  inside-by h = rw (← e) (shift-by offset (n .size * 4096) len _ refl h)
-
-  pub cached-by : eqb (n .«cache_policy») 0 ≡ cachedOf N node
-  unfolding cachedOf
-  cached-by = rw e
-
-pub inside-fits : (offset size len : ℕ) → len ≤ size * 4096 → size ≤ 4294967295 → leb offset (size * 4096 - len) ≡ true → offset + len < 17592186044416
-inside-fits offset size len h s t = let l = leb-true offset (size * 4096 - len) t in omega (arith, l, h, s)
-
 pages-most : (x : ℕ) (b : Bool) → pick b (x / 4096) (x / 4096 + 1) ≤ x + 1
 pages-most x true = omega arith
 pages-most x false = omega arith
 
-pub count-small : (it : BlockIter) {k : ℕ} → k ≡ countOf 4096 it → it .end < 17592186044416 → k ≤ 17592186044416
+pub count-small : (it : BlockIter) {k : ℕ} → k ≡ countOf 4096 it → it .end < byteLimit → k ≤ byteLimit
 unfolding countOf pagesOf
 count-small it e h = rw e (by (leb (it .end) (it .begin)) (pages-most (it .end) (eqb (it .end % 4096) 0)))
   where
-    by : (b : Bool) {x : ℕ} → x ≤ it .end + 1 → pick b 0 (x - it .begin / 4096) ≤ 17592186044416
+    by : (b : Bool) {x : ℕ} → x ≤ it .end + 1 → pick b 0 (x - it .begin / 4096) ≤ byteLimit
     by true l = omega arith
     by false l = omega (arith, l, h)
 
@@ -82,65 +64,65 @@ count-small it e h = rw e (by (leb (it .end) (it .begin)) (pages-most (it .end) 
 pub other : {r : Refusal} {A : Type 0} → Why r ≡ Fine → A
 other h = let z : _≡_ {A = ℕ} 0 1 = cc in absurd (omega arith)
 
-module _ (N M list : List ℕ) (n offset len : ℕ) {a : Bool} (e : a ≡ cachedOf N n) where
+module _ (N M list : List ℕ) (n offset len : ℕ) {m : Node} {a : Bool} (v : m ≡ nodeOf N n) (e : a ≡ cachedOf m) where
   pub writing-state : a ≡ false → Why BadState ≡ againstWriting 4096 N M list n offset len
   unfolding againstWriting
-  writing-state h = rw (sym e ∙ h)
+  writing-state h = rw (← v, sym e ∙ h)
 
   pub reading-state : a ≡ false → Why BadState ≡ againstReading 4096 N n offset len
   unfolding againstReading
-  reading-state h = rw (sym e ∙ h)
+  reading-state h = rw (← v, sym e ∙ h)
 
-  module _ {b : Bool} (h : a ≡ true) (f : b ≡ insideOf 4096 N n offset len) where
+  module _ {b : Bool} (h : a ≡ true) (f : b ≡ containsOf 4096 m offset len) where
     pub writing-out : b ≡ false → Why OutOfRange ≡ againstWriting 4096 N M list n offset len
     unfolding againstWriting
-    writing-out t = rw (sym e ∙ h, sym f ∙ t)
+    writing-out t = rw (← v, sym e ∙ h, sym f ∙ t)
 
     module _ {k : ℕ} {r : Bool} (t : b ≡ true) (c : k ≡ countOf 4096 (iterOf offset (offset + len))) (d : r ≡ roomOf M list k) where
       pub writing-room : r ≡ true → Fine ≡ againstWriting 4096 N M list n offset len
       unfolding againstWriting
-      writing-room g = rw (sym e ∙ h, sym f ∙ t, ← c, sym d ∙ g)
+      writing-room g = rw (← v, sym e ∙ h, sym f ∙ t, ← c, sym d ∙ g)
 
       pub writing-full : r ≡ false → Why NoRoom ≡ againstWriting 4096 N M list n offset len
       unfolding againstWriting
-      writing-full g = rw (sym e ∙ h, sym f ∙ t, ← c, sym d ∙ g)
+      writing-full g = rw (← v, sym e ∙ h, sym f ∙ t, ← c, sym d ∙ g)
 
     pub reading-in : b ≡ true → Fine ≡ againstReading 4096 N n offset len
     unfolding againstReading
-    reading-in t = rw (sym e ∙ h, sym f ∙ t)
+    reading-in t = rw (← v, sym e ∙ h, sym f ∙ t)
 
     pub reading-out : b ≡ false → Why OutOfRange ≡ againstReading 4096 N n offset len
     unfolding againstReading
-    reading-out t = rw (sym e ∙ h, sym f ∙ t)
+    reading-out t = rw (← v, sym e ∙ h, sym f ∙ t)
 
-module _ (N M list : List ℕ) (n offset len : ℕ) {b : Bool} (f : b ≡ insideOf 4096 N n offset len) where
+module _ (N M list : List ℕ) (n offset len : ℕ) {m : Node} {b : Bool} (v : m ≡ nodeOf N n) (f : b ≡ containsOf 4096 m offset len) where
   pub committing-out : b ≡ false → Why OutOfRange ≡ againstCommitting 4096 N M list n offset len
   unfolding againstCommitting
-  committing-out t = rw (sym f ∙ t)
+  committing-out t = rw (← v, sym f ∙ t)
 
   module _ {r : Bool} (t : b ≡ true) (d : r ≡ roomOf M list (len / 4096)) where
     pub committing-room : r ≡ true → Fine ≡ againstCommitting 4096 N M list n offset len
     unfolding againstCommitting
-    committing-room g = rw (sym f ∙ t, sym d ∙ g)
+    committing-room g = rw (← v, sym f ∙ t, sym d ∙ g)
 
     pub committing-full : r ≡ false → Why NoRoom ≡ againstCommitting 4096 N M list n offset len
     unfolding againstCommitting
-    committing-full g = rw (sym f ∙ t, sym d ∙ g)
+    committing-full g = rw (← v, sym f ∙ t, sym d ∙ g)
 
 -- a refusal before the work
 module _ (N P U M H Y list : List ℕ) (n offset : ℕ) (bytes : List ℕ) {a : Against} (e : a ≡ againstWriting 4096 N M list n offset (length bytes)) where
-  pub write-refused : {r : Refusal} {g : Ranged} → a ≡ Why r → g ≡ refusedBy r → rangingOf (g .answer) (poolOf N P U M H Y) (toldOf list (g .count)) (g .done) (g .taken) ≡ writeAt 4096 (poolOf N P U M H Y) list n offset bytes
+  pub write-refused : {r : Refusal} {g : Reply} → a ≡ Why r → g ≡ replyOf (Refused r) → outcome g (poolOf N P U M H Y) list [] ≡ writeAt 4096 (poolOf N P U M H Y) list n offset bytes
   unfolding writeAt
-  write-refused h g = rw (sym e ∙ h, g)
+  write-refused h g = rw (g, sym e ∙ h)
 
   pub write-goes : a ≡ Fine → writeThrough 4096 (poolOf N P U M H Y) list n offset bytes ≡ writeAt 4096 (poolOf N P U M H Y) list n offset bytes
   unfolding writeAt
   write-goes h = rw (sym e ∙ h)
 
 module _ (N P U M H Y list : List ℕ) (n offset len : ℕ) {a : Against} (e : a ≡ againstCommitting 4096 N M list n offset len) where
-  pub commit-refused : {r : Refusal} {g : Ranged} → a ≡ Why r → g ≡ refusedBy r → rangingOf (g .answer) (poolOf N P U M H Y) (toldOf list (g .count)) (g .done) (g .taken) ≡ commitAt 4096 (poolOf N P U M H Y) list n offset len
+  pub commit-refused : {r : Refusal} {g : Reply} → a ≡ Why r → g ≡ replyOf (Refused r) → outcome g (poolOf N P U M H Y) list [] ≡ commitAt 4096 (poolOf N P U M H Y) list n offset len
   unfolding commitAt
-  commit-refused h g = rw (sym e ∙ h, g)
+  commit-refused h g = rw (g, sym e ∙ h)
 
   pub commit-goes : a ≡ Fine → commitThrough 4096 (poolOf N P U M H Y) list n offset len ≡ commitAt 4096 (poolOf N P U M H Y) list n offset len
   unfolding commitAt
@@ -148,19 +130,19 @@ module _ (N P U M H Y list : List ℕ) (n offset len : ℕ) {a : Against} (e : a
 
 -- the work's answer
 module _ (N P U M H Y list : List ℕ) (n offset : ℕ) {r : Answer} {a : Against} {w : Work} {free left taken : ℕ} (g : free ≡ freeCount U) (l : left ≡ freeCount (w .used)) (k : taken ≡ free - left) where
-  pub write-done : (bytes : List ℕ) {it : BlockIter} → partOf a it w ≡ writeRange 4096 N M n offset bytes (workOf P U Y (toldOf list 0)) → r ≡ answerBy a (it .begin - offset) → rangingOf r (poolOf N (w .pages) (w .used) M H (w .memory)) (w .told) (it .begin - offset) taken ≡ writeThrough 4096 (poolOf N P U M H Y) list n offset bytes
+  pub write-done : (bytes : List ℕ) {it : BlockIter} → partOf a it w ≡ writeRange 4096 N M n offset bytes (workOf P U Y (toldOf list 0)) → r ≡ answerBy a (it .begin - offset) → outcomeOf r (poolOf N (w .pages) (w .used) M H (w .memory)) (w .told) (it .begin - offset) taken [] ≡ writeThrough 4096 (poolOf N P U M H Y) list n offset bytes
   unfolding writeThrough written rangedBy
   write-done bytes e r = rw (← e, r, k, g, l)
 
-  pub commit-done : (len : ℕ) {i : ℕ} → partOf a i w ≡ commitRange 4096 N M n (offset / 4096) (len / 4096) (workOf P U Y (toldOf list 0)) → r ≡ answerBy a 0 → rangingOf r (poolOf N (w .pages) (w .used) M H (w .memory)) (w .told) 0 taken ≡ commitThrough 4096 (poolOf N P U M H Y) list n offset len
+  pub commit-done : (len : ℕ) {i : ℕ} → partOf a i w ≡ commitRange 4096 N M n (offset / 4096) (len / 4096) (workOf P U Y (toldOf list 0)) → r ≡ answerBy a 0 → outcomeOf r (poolOf N (w .pages) (w .used) M H (w .memory)) (w .told) 0 taken [] ≡ commitThrough 4096 (poolOf N P U M H Y) list n offset len
   unfolding commitThrough committed rangedBy
   commit-done len e r = rw (← e, r, k, g, l)
 
 module _ (N P U M H Y : List ℕ) (n offset : ℕ) (buf : List ℕ) {a : Against} (e : a ≡ againstReading 4096 N n offset (length buf)) where
-  pub read-refused : {r : Refusal} → a ≡ Why r → filledOf (Refused r) (poolOf N P U M H Y) buf ≡ readAt 4096 (poolOf N P U M H Y) n offset buf
+  pub read-refused : {r : Refusal} {g : Reply} → a ≡ Why r → g ≡ replyOf (Refused r) → outcome g (poolOf N P U M H Y) [] buf ≡ readAt 4096 (poolOf N P U M H Y) n offset buf
   unfolding readAt
-  read-refused h = rw (sym e ∙ h)
+  read-refused h g = rw (g, sym e ∙ h)
 
-  pub read-done : {b : Against} {it : BlockIter} {s : Read} {r : Answer} → a ≡ Fine → partOf b it s ≡ readRange 4096 N M n offset (readOf P U Y buf) → r ≡ answerBy b 0 → filledOf r (poolOf N (s .pages) (s .used) M H (s .memory)) (s .buf) ≡ readAt 4096 (poolOf N P U M H Y) n offset buf
+  pub read-done : {b : Against} {it : BlockIter} {s : Read} {r : Answer} {g : Reply} → a ≡ Fine → partOf b it s ≡ readRange 4096 N M n offset (readOf P U Y buf) → r ≡ answerBy b 0 → g ≡ replyOf r → outcome g (poolOf N (s .pages) (s .used) M H (s .memory)) [] (s .buf) ≡ readAt 4096 (poolOf N P U M H Y) n offset buf
   unfolding readAt filled
-  read-done h d r = rw (sym e ∙ h, ← d, r)
+  read-done h d r g = rw (g, sym e ∙ h, ← d, r)

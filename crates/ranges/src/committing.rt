@@ -1,18 +1,20 @@
 // Committing a range of pages (paged.rs 301).
-use crate::Ranged;
-use logic::Found;
+use outcome::Against;
+use outcome::Refusal;
+use outcome::Reply;
 use page::CommitPart;
-use pool::Against;
-use pool::Refusal;
+use pool::Entered;
 ghost use mathlib.Core.Path.{_≡_};
-ghost use mathlib.Core.List.{List};
+ghost use mathlib.Core.List.{List, []};
 ghost use Prim.Native.Nat.{ℕ, _+_, _≤_, _<_};
+ghost use Rattle.node.specs.Node.{byteLimit};
+ghost use Rattle.outcome.specs.Outcome.{outcome};
 ghost use Rattle.tables.specs.Pool.{poolOf};
-ghost use Rattle.notices.specs.Notices.{toldOf};
+ghost use Rattle.outcome.specs.Told.{toldOf};
 ghost use Rattle.lookup.specs.Work.{workOf};
-ghost use Rattle.pool.specs.declared.answer.Against.the-variants.{Nothing as Fine};
+ghost use Rattle.outcome.specs.declared.answer.Against.the-variants.{Nothing as Fine};
 ghost use Rattle.page.specs.Each.{partOf};
-ghost use Rattle.ranges.specs.Ranges.{rangingOf, againstCommitting, commitRange, commitThrough, commitAt, commit};
+ghost use Rattle.ranges.specs.Ranges.{againstCommitting, commitRange, commitThrough, commitAt, commit};
 
 fn against_committing(
     nodes: &[u32],
@@ -23,12 +25,13 @@ fn against_committing(
     len: u64,
 ) -> Against
     ensures { λ r. ⌜ r ≡ againstCommitting 4096 (now (nodes .entry)) (now (mappings .entry)) (now (notices .entry)) node offset len ⌝ }
-    ensures fits { λ r. ⌜ (r ≡ Fine → offset + len < 17592186044416) ⌝ }
+    ensures fits { λ r. ⌜ (r ≡ Fine → offset + len < byteLimit) ⌝ }
 {
-    if !crate::is_inside(nodes, node, offset, len) {
+    let n = tables::node_at(nodes, node);
+    if !n.contains(offset, len) {
         return Against::Why(Refusal::OutOfRange);
     }
-    if commit::has_room(mappings, notices, len / 4096) {
+    if outcome::has_room(mappings, notices, len / 4096) {
         return Against::Nothing;
     }
     Against::Why(Refusal::NoRoom)
@@ -37,9 +40,9 @@ fn against_committing(
 // Page by page, up to the first refusal.
 fn commit_range(
     nodes: &[u32],
-    mappings: &[u32],
     pages: &mut [u32],
     used: &mut [u8],
+    mappings: &[u32],
     memory: &mut [u8],
     notices: &mut [u32],
     node: u32,
@@ -56,11 +59,11 @@ fn commit_range(
     let mut count = 0;
     while left > 0 {
         left -= 1;
-        let part = page::commit_page(
+        let part = page::commit_one(
             nodes,
-            mappings,
             pages,
             used,
+            mappings,
             memory,
             notices,
             count,
@@ -100,18 +103,18 @@ fn commit_through(
     node: u32,
     offset: u64,
     len: u64,
-) -> Ranged
-    requires { ⌜ offset + len ≤ 17592186044416 ⌝ }
+) -> Reply
+    requires { ⌜ offset + len ≤ byteLimit ⌝ }
     ensures { λ r. ⌜ ((head : List ℕ) →
-        rangingOf (r .answer) (poolOf (now (nodes .entry)) (now (pages .exit)) (now (used .exit)) (now (mappings .entry)) head (now (memory .exit))) (toldOf (now (notices .exit)) (r .count)) (r .done) (r .taken)
+        outcome r (poolOf (now (nodes .entry)) (now (pages .exit)) (now (used .exit)) (now (mappings .entry)) head (now (memory .exit))) (now (notices .exit)) []
         ≡ commitThrough 4096 (poolOf (now (nodes .entry)) (now (pages .entry)) (now (used .entry)) (now (mappings .entry)) head (now (memory .entry))) (now (notices .entry)) node offset len) ⌝ }
 {
     let free = frames::free_count(used);
     let part = commit_range(
         nodes,
-        mappings,
         pages,
         used,
+        mappings,
         memory,
         notices,
         node,
@@ -120,7 +123,7 @@ fn commit_through(
     );
     let why = part.why;
     let answer = crate::answer_by(why, 0);
-    Ranged {
+    Reply {
         answer,
         done: 0,
         taken: crate::fall(free, frames::free_count(used)),
@@ -138,14 +141,14 @@ fn commit_at(
     node: u32,
     offset: u64,
     len: u64,
-) -> Ranged
+) -> Reply
     ensures { λ r. ⌜ ((head : List ℕ) →
-        rangingOf (r .answer) (poolOf (now (nodes .entry)) (now (pages .exit)) (now (used .exit)) (now (mappings .entry)) head (now (memory .exit))) (toldOf (now (notices .exit)) (r .count)) (r .done) (r .taken)
+        outcome r (poolOf (now (nodes .entry)) (now (pages .exit)) (now (used .exit)) (now (mappings .entry)) head (now (memory .exit))) (now (notices .exit)) []
         ≡ commitAt 4096 (poolOf (now (nodes .entry)) (now (pages .entry)) (now (used .entry)) (now (mappings .entry)) head (now (memory .entry))) (now (notices .entry)) node offset len) ⌝ }
 {
     let against = against_committing(nodes, mappings, notices, node, offset, len);
     match against {
-        Against::Why(why) => return crate::refused(why),
+        Against::Why(why) => return Reply::refused(why),
         Against::Nothing => return commit_through(
             nodes,
             pages,
@@ -172,27 +175,24 @@ pub fn commit(
     object: u64,
     offset: u64,
     len: u64,
-) -> Ranged
+) -> Reply
     ensures { λ r. ⌜
-        rangingOf (r .answer) (poolOf (now (nodes .entry)) (now (pages .exit)) (now (used .exit)) (now (mappings .entry)) (now (head .entry)) (now (memory .exit))) (toldOf (now (notices .exit)) (r .count)) (r .done) (r .taken)
+        outcome r (poolOf (now (nodes .entry)) (now (pages .exit)) (now (used .exit)) (now (mappings .entry)) (now (head .entry)) (now (memory .exit))) (now (notices .exit)) []
         ≡ commit 4096 (poolOf (now (nodes .entry)) (now (pages .entry)) (now (used .entry)) (now (mappings .entry)) (now (head .entry)) (now (memory .entry))) (now (notices .entry)) object offset len ⌝ }
 {
-    if sound::is_sound(nodes, pages, used, mappings, head, memory) {
-        let found = pool::find_object(nodes, object);
-        match found {
-            Found::At(node) => return commit_at(
-                nodes,
-                pages,
-                used,
-                mappings,
-                memory,
-                notices,
-                node,
-                offset,
-                len,
-            ),
-            Found::Nothing => return crate::refused(Refusal::NoObject),
-        }
+    let entered = pool::enter(nodes, pages, used, mappings, head, memory, object);
+    match entered {
+        Entered::At(node) => return commit_at(
+            nodes,
+            pages,
+            used,
+            mappings,
+            memory,
+            notices,
+            node,
+            offset,
+            len,
+        ),
+        Entered::Refused(why) => return Reply::refused(why),
     }
-    crate::refused(Refusal::BadPool)
 }

@@ -1,28 +1,31 @@
 // Reading a range of bytes (paged.rs 225).
 use blocks::BlockIter;
-use logic::Found;
+use outcome::Against;
+use outcome::Refusal;
+use outcome::Reply;
 use page::ReadPart;
-use pool::Against;
-use pool::Answer;
-use pool::Refusal;
+use pool::Entered;
 ghost use mathlib.Core.Path.{_≡_};
-ghost use mathlib.Core.List.{List};
+ghost use mathlib.Core.List.{List, []};
 ghost use Prim.Native.Nat.{ℕ, _+_, _≤_, _<_};
 ghost use lib.ListN.{length};
+ghost use Rattle.node.specs.Node.{byteLimit};
+ghost use Rattle.outcome.specs.Outcome.{outcome};
 ghost use Rattle.tables.specs.Pool.{poolOf};
-ghost use Rattle.pool.specs.declared.answer.Against.the-variants.{Nothing as Fine};
+ghost use Rattle.outcome.specs.declared.answer.Against.the-variants.{Nothing as Fine};
 ghost use Rattle.page.specs.Each.{partOf};
 ghost use Rattle.page.specs.Pages.{readOf};
-ghost use Rattle.ranges.specs.Ranges.{filledOf, againstReading, readRange, readAt, read};
+ghost use Rattle.ranges.specs.Ranges.{againstReading, readRange, readAt, read};
 
 fn against_reading(nodes: &[u32], node: u32, offset: u64, len: u64) -> Against
     ensures { λ r. ⌜ r ≡ againstReading 4096 (now (nodes .entry)) node offset len ⌝ }
-    ensures fits { λ r. ⌜ (r ≡ Fine → offset + len < 17592186044416) ⌝ }
+    ensures fits { λ r. ⌜ (r ≡ Fine → offset + len < byteLimit) ⌝ }
 {
-    if !crate::is_cached(nodes, node) {
+    let n = tables::node_at(nodes, node);
+    if !n.is_cached() {
         return Against::Why(Refusal::BadState);
     }
-    if crate::is_inside(nodes, node, offset, len) {
+    if n.contains(offset, len) {
         return Against::Nothing;
     }
     Against::Why(Refusal::OutOfRange)
@@ -31,15 +34,15 @@ fn against_reading(nodes: &[u32], node: u32, offset: u64, len: u64) -> Against
 // Page by page; on a sound pool none is refused.
 fn read_range(
     nodes: &[u32],
-    mappings: &[u32],
     pages: &mut [u32],
     used: &mut [u8],
+    mappings: &[u32],
     memory: &mut [u8],
     node: u32,
     offset: u64,
     buf: &mut [u8],
 ) -> ReadPart
-    requires { ⌜ offset + length (now buf) ≤ 17592186044416 ⌝ }
+    requires { ⌜ offset + length (now buf) ≤ byteLimit ⌝ }
     ensures { λ r. ⌜
         partOf (r .why) (r .rest) (readOf (now (pages .exit)) (now (used .exit)) (now (memory .exit)) (now (buf .exit)))
         ≡ readRange 4096 (now (nodes .entry)) (now (mappings .entry)) node offset (readOf (now (pages .entry)) (now (used .entry)) (now (memory .entry)) (now (buf .entry))) ⌝ }
@@ -51,7 +54,7 @@ fn read_range(
     let mut left = it.count();
     while left > 0 {
         left -= 1;
-        let part = page::read_page(nodes, mappings, pages, used, memory, node, offset, buf, it);
+        let part = page::read_page(nodes, pages, used, mappings, memory, node, offset, buf, it);
         it = part.rest;
         let why = part.why;
         match why {
@@ -75,18 +78,18 @@ fn read_at(
     node: u32,
     offset: u64,
     buf: &mut [u8],
-) -> Answer
+) -> Reply
     ensures { λ r. ⌜ ((head : List ℕ) →
-        filledOf r (poolOf (now (nodes .entry)) (now (pages .exit)) (now (used .exit)) (now (mappings .entry)) head (now (memory .exit))) (now (buf .exit))
+        outcome r (poolOf (now (nodes .entry)) (now (pages .exit)) (now (used .exit)) (now (mappings .entry)) head (now (memory .exit))) [] (now (buf .exit))
         ≡ readAt 4096 (poolOf (now (nodes .entry)) (now (pages .entry)) (now (used .entry)) (now (mappings .entry)) head (now (memory .entry))) node offset (now (buf .entry))) ⌝ }
 {
     let against = against_reading(nodes, node, offset, buf.len() as u64);
     match against {
-        Against::Why(why) => return Answer::Refused(why),
+        Against::Why(why) => return Reply::refused(why),
         Against::Nothing => {
-            let part = read_range(nodes, mappings, pages, used, memory, node, offset, buf);
+            let part = read_range(nodes, pages, used, mappings, memory, node, offset, buf);
             let why = part.why;
-            return crate::answer_by(why, 0);
+            return Reply::of(crate::answer_by(why, 0));
         }
     }
 }
@@ -102,26 +105,23 @@ pub fn read(
     object: u64,
     offset: u64,
     buf: &mut [u8],
-) -> Answer
+) -> Reply
     ensures { λ r. ⌜
-        filledOf r (poolOf (now (nodes .entry)) (now (pages .exit)) (now (used .exit)) (now (mappings .entry)) (now (head .entry)) (now (memory .exit))) (now (buf .exit))
+        outcome r (poolOf (now (nodes .entry)) (now (pages .exit)) (now (used .exit)) (now (mappings .entry)) (now (head .entry)) (now (memory .exit))) [] (now (buf .exit))
         ≡ read 4096 (poolOf (now (nodes .entry)) (now (pages .entry)) (now (used .entry)) (now (mappings .entry)) (now (head .entry)) (now (memory .entry))) object offset (now (buf .entry)) ⌝ }
 {
-    if sound::is_sound(nodes, pages, used, mappings, head, memory) {
-        let found = pool::find_object(nodes, object);
-        match found {
-            Found::At(node) => return read_at(
-                nodes,
-                pages,
-                used,
-                mappings,
-                memory,
-                node,
-                offset,
-                buf,
-            ),
-            Found::Nothing => return Answer::Refused(Refusal::NoObject),
-        }
+    let entered = pool::enter(nodes, pages, used, mappings, head, memory, object);
+    match entered {
+        Entered::At(node) => return read_at(
+            nodes,
+            pages,
+            used,
+            mappings,
+            memory,
+            node,
+            offset,
+            buf,
+        ),
+        Entered::Refused(why) => return Reply::refused(why),
     }
-    Answer::Refused(Refusal::BadPool)
 }

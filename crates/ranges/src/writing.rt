@@ -1,20 +1,22 @@
 // Writing a range of bytes (paged.rs 235).
-use crate::Ranged;
 use blocks::BlockIter;
-use logic::Found;
+use outcome::Against;
+use outcome::Refusal;
+use outcome::Reply;
 use page::WritePart;
-use pool::Against;
-use pool::Refusal;
+use pool::Entered;
 ghost use mathlib.Core.Path.{_≡_};
-ghost use mathlib.Core.List.{List};
+ghost use mathlib.Core.List.{List, []};
 ghost use Prim.Native.Nat.{ℕ, _+_, _≤_, _<_};
 ghost use lib.ListN.{length};
+ghost use Rattle.node.specs.Node.{byteLimit};
+ghost use Rattle.outcome.specs.Outcome.{outcome};
 ghost use Rattle.tables.specs.Pool.{poolOf};
-ghost use Rattle.notices.specs.Notices.{toldOf};
+ghost use Rattle.outcome.specs.Told.{toldOf};
 ghost use Rattle.lookup.specs.Work.{workOf};
-ghost use Rattle.pool.specs.declared.answer.Against.the-variants.{Nothing as Fine};
+ghost use Rattle.outcome.specs.declared.answer.Against.the-variants.{Nothing as Fine};
 ghost use Rattle.page.specs.Each.{partOf};
-ghost use Rattle.ranges.specs.Ranges.{rangingOf, againstWriting, writeRange, writeThrough, writeAt, write};
+ghost use Rattle.ranges.specs.Ranges.{againstWriting, writeRange, writeThrough, writeAt, write};
 
 fn against_writing(
     nodes: &[u32],
@@ -25,21 +27,20 @@ fn against_writing(
     len: u64,
 ) -> Against
     ensures { λ r. ⌜ r ≡ againstWriting 4096 (now (nodes .entry)) (now (mappings .entry)) (now (notices .entry)) node offset len ⌝ }
-    ensures fits { λ r. ⌜ (r ≡ Fine → offset + len < 17592186044416) ⌝ }
+    ensures fits { λ r. ⌜ (r ≡ Fine → offset + len < byteLimit) ⌝ }
 {
-    let cached = crate::is_cached(nodes, node);
-    let inside = crate::is_inside(nodes, node, offset, len);
-    if !cached {
+    let n = tables::node_at(nodes, node);
+    if !n.is_cached() {
         return Against::Why(Refusal::BadState);
     }
-    if !inside {
+    if !n.contains(offset, len) {
         return Against::Why(Refusal::OutOfRange);
     }
     let range = BlockIter {
         begin: offset,
         end: offset + len,
     };
-    if commit::has_room(mappings, notices, range.count()) {
+    if outcome::has_room(mappings, notices, range.count()) {
         return Against::Nothing;
     }
     Against::Why(Refusal::NoRoom)
@@ -48,16 +49,16 @@ fn against_writing(
 // Page by page, up to the first refusal.
 fn write_range(
     nodes: &[u32],
-    mappings: &[u32],
     pages: &mut [u32],
     used: &mut [u8],
+    mappings: &[u32],
     memory: &mut [u8],
     notices: &mut [u32],
     node: u32,
     offset: u64,
     bytes: &[u8],
 ) -> WritePart
-    requires { ⌜ offset + length (now bytes) ≤ 17592186044416 ⌝ }
+    requires { ⌜ offset + length (now bytes) ≤ byteLimit ⌝ }
     ensures { λ r. ⌜
         partOf (r .why) (r .rest) (workOf (now (pages .exit)) (now (used .exit)) (now (memory .exit)) (toldOf (now (notices .exit)) (r .count)))
         ≡ writeRange 4096 (now (nodes .entry)) (now (mappings .entry)) node offset (now (bytes .entry)) (workOf (now (pages .entry)) (now (used .entry)) (now (memory .entry)) (toldOf (now (notices .entry)) 0)) ⌝ }
@@ -73,9 +74,9 @@ fn write_range(
         left -= 1;
         let part = page::write_page(
             nodes,
-            mappings,
             pages,
             used,
+            mappings,
             memory,
             notices,
             count,
@@ -111,18 +112,18 @@ fn write_through(
     node: u32,
     offset: u64,
     bytes: &[u8],
-) -> Ranged
-    requires { ⌜ offset + length (now bytes) ≤ 17592186044416 ⌝ }
+) -> Reply
+    requires { ⌜ offset + length (now bytes) ≤ byteLimit ⌝ }
     ensures { λ r. ⌜ ((head : List ℕ) →
-        rangingOf (r .answer) (poolOf (now (nodes .entry)) (now (pages .exit)) (now (used .exit)) (now (mappings .entry)) head (now (memory .exit))) (toldOf (now (notices .exit)) (r .count)) (r .done) (r .taken)
+        outcome r (poolOf (now (nodes .entry)) (now (pages .exit)) (now (used .exit)) (now (mappings .entry)) head (now (memory .exit))) (now (notices .exit)) []
         ≡ writeThrough 4096 (poolOf (now (nodes .entry)) (now (pages .entry)) (now (used .entry)) (now (mappings .entry)) head (now (memory .entry))) (now (notices .entry)) node offset (now (bytes .entry))) ⌝ }
 {
     let free = frames::free_count(used);
     let part = write_range(
         nodes,
-        mappings,
         pages,
         used,
+        mappings,
         memory,
         notices,
         node,
@@ -133,7 +134,7 @@ fn write_through(
     let done = rest.begin - offset;
     let why = part.why;
     let answer = crate::answer_by(why, done);
-    Ranged {
+    Reply {
         answer,
         done,
         taken: crate::fall(free, frames::free_count(used)),
@@ -151,14 +152,14 @@ fn write_at(
     node: u32,
     offset: u64,
     bytes: &[u8],
-) -> Ranged
+) -> Reply
     ensures { λ r. ⌜ ((head : List ℕ) →
-        rangingOf (r .answer) (poolOf (now (nodes .entry)) (now (pages .exit)) (now (used .exit)) (now (mappings .entry)) head (now (memory .exit))) (toldOf (now (notices .exit)) (r .count)) (r .done) (r .taken)
+        outcome r (poolOf (now (nodes .entry)) (now (pages .exit)) (now (used .exit)) (now (mappings .entry)) head (now (memory .exit))) (now (notices .exit)) []
         ≡ writeAt 4096 (poolOf (now (nodes .entry)) (now (pages .entry)) (now (used .entry)) (now (mappings .entry)) head (now (memory .entry))) (now (notices .entry)) node offset (now (bytes .entry))) ⌝ }
 {
     let against = against_writing(nodes, mappings, notices, node, offset, bytes.len() as u64);
     match against {
-        Against::Why(why) => return crate::refused(why),
+        Against::Why(why) => return Reply::refused(why),
         Against::Nothing => return write_through(
             nodes,
             pages,
@@ -185,27 +186,24 @@ pub fn write(
     object: u64,
     offset: u64,
     bytes: &[u8],
-) -> Ranged
+) -> Reply
     ensures { λ r. ⌜
-        rangingOf (r .answer) (poolOf (now (nodes .entry)) (now (pages .exit)) (now (used .exit)) (now (mappings .entry)) (now (head .entry)) (now (memory .exit))) (toldOf (now (notices .exit)) (r .count)) (r .done) (r .taken)
+        outcome r (poolOf (now (nodes .entry)) (now (pages .exit)) (now (used .exit)) (now (mappings .entry)) (now (head .entry)) (now (memory .exit))) (now (notices .exit)) []
         ≡ write 4096 (poolOf (now (nodes .entry)) (now (pages .entry)) (now (used .entry)) (now (mappings .entry)) (now (head .entry)) (now (memory .entry))) (now (notices .entry)) object offset (now (bytes .entry)) ⌝ }
 {
-    if sound::is_sound(nodes, pages, used, mappings, head, memory) {
-        let found = pool::find_object(nodes, object);
-        match found {
-            Found::At(node) => return write_at(
-                nodes,
-                pages,
-                used,
-                mappings,
-                memory,
-                notices,
-                node,
-                offset,
-                bytes,
-            ),
-            Found::Nothing => return crate::refused(Refusal::NoObject),
-        }
+    let entered = pool::enter(nodes, pages, used, mappings, head, memory, object);
+    match entered {
+        Entered::At(node) => return write_at(
+            nodes,
+            pages,
+            used,
+            mappings,
+            memory,
+            notices,
+            node,
+            offset,
+            bytes,
+        ),
+        Entered::Refused(why) => return Reply::refused(why),
     }
-    crate::refused(Refusal::BadPool)
 }

@@ -13,14 +13,15 @@ use Rattle.tables.specs.Pool.{Pool}
 use Rattle.tables.specs.Tables.{nodeOf, freeNodeIn, freeNodeFrom}
 use Rattle.sound.specs.Facts.{Sound}
 use Rattle.soundness.proofs.Soundness.{facts-sound}
-use Rattle.pool.specs.declared.answer.Answer.{Answer}
-use Rattle.pool.specs.declared.answer.Answer.the-variants.{Done, Refused}
-use Rattle.pool.specs.declared.answer.Refusal.{Refusal}
-use Rattle.pool.specs.declared.answer.Refusal.the-variants.{OutOfRange, BadState, InvalidArgs, NoMemory, NotSupported, Unavailable, BadPool, NoObject, NoNode, NoRoom, Stopped, PinLedger}
-use Rattle.pool.specs.declared.answer.Against.the-variants.{Why, Nothing as Fine}
-use Rattle.pool.specs.Answers.{unless}
+use Rattle.outcome.specs.declared.answer.Answer.{Answer}
+use Rattle.outcome.specs.declared.answer.Answer.the-variants.{Done, Refused}
+use Rattle.outcome.specs.declared.answer.Refusal.{Refusal}
+use Rattle.outcome.specs.declared.answer.Refusal.the-variants.{OutOfRange, BadState, InvalidArgs, NoMemory, NotSupported, Unavailable, BadPool, NoObject, NoNode, NoRoom, Stopped, PinLedger}
+use Rattle.outcome.specs.declared.answer.Against.the-variants.{Why, Nothing as Fine}
+use Rattle.outcome.specs.Answers.{unless}
 use Rattle.pool.specs.Calls.{refused, leafAt, newLeaf, new}
-use Rattle.commit.specs.Noted.{refusedOf, roomOf}
+use Rattle.commit.specs.Noted.{refusedOf}
+use Rattle.outcome.specs.Room.{roomOf}
 use Rattle.child.specs.Child.{born, againstChild, withBoth, withChild, numbered, childAt, createChild}
 use Rattle.arrays.specs.Calls.{ByTests}
 use Rattle.runs.proofs.Objects.{on-leaf}

@@ -14,7 +14,7 @@ use Rattle.tables.specs.Pool.{Pool}
 use Rattle.tables.specs.Tables.{nodeOf, freeNodeIn}
 use Rattle.sound.specs.Facts.{Sound}
 use Rattle.sound.specs.Sound.{lengthsOk, sound}
-use Rattle.pool.specs.declared.answer.Refusal.the-variants.{InvalidArgs, BadPool, NoNode}
+use Rattle.outcome.specs.declared.answer.Refusal.the-variants.{InvalidArgs, BadPool, NoNode}
 use Rattle.pool.specs.Calls.{refused, freshPool, start, leafAt, newLeaf, new}
 use Rattle.commit.specs.Noted.{Said, refusedOf}
 use Rattle.child.specs.Child.{born, againstChild, numbered, childAt, createChild}

@@ -2,8 +2,8 @@
 use mathlib.Core.Path.{_≡_, refl}
 use mathlib.Core.List.{List, [], _∷_}
 use Prim.Native.Nat.{ℕ}
-use Rattle.pool.specs.declared.answer.Answer.the-variants.{Done, Refused}
-use Rattle.pool.specs.declared.answer.Refusal.the-variants.{NoMemory}
+use Rattle.outcome.specs.declared.answer.Answer.the-variants.{Done, Refused}
+use Rattle.outcome.specs.declared.answer.Refusal.the-variants.{NoMemory}
 use Rattle.births.specs.Arrays.{blankArray, cloneArray}
 use Rattle.arrays.specs.Arrays.{writeArray}
 use Rattle.runs.specs.Runs.{replyOf, Event, eventOf}

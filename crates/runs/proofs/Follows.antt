@@ -10,7 +10,7 @@ use borrow.Author.Tests.{eqb-true, eqb-false}
 use Rattle.logic.specs.Pick.{pick}
 use Rattle.tables.specs.Pool.{Pool}
 use Rattle.sound.specs.Facts.{Leaf}
-use Rattle.pool.specs.declared.answer.Against.{Against}
+use Rattle.outcome.specs.declared.answer.Against.{Against}
 use Rattle.ranges.specs.Ranges.{againstReading}
 use Rattle.isolation.specs.Private.{Private}
 use Rattle.runs.specs.Runs.{Call, Reply, stepBy, Event, history}

@@ -14,7 +14,7 @@ use Rattle.node.specs.Node.{leafOf, originNode}
 use Rattle.tables.specs.Pool.{Pool}
 use Rattle.tables.specs.Tables.{nodeOf, freeNodeIn}
 use Rattle.sound.specs.Facts.{Leaf, Sound}
-use Rattle.pool.specs.declared.answer.Refusal.the-variants.{InvalidArgs, BadPool, NoNode}
+use Rattle.outcome.specs.declared.answer.Refusal.the-variants.{InvalidArgs, BadPool, NoNode}
 use Rattle.sound.specs.Sound.{sound}
 use Rattle.pool.specs.Calls.{refused, leafAt, newLeaf, new}
 use Rattle.commit.specs.Noted.{Said, refusedOf}

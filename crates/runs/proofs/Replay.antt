@@ -7,9 +7,9 @@ use lib.ListN.{length, getD}
 use lib.Seq.{ext-getD}
 use Rattle.tables.specs.Pool.{Pool}
 use Rattle.sound.specs.Facts.{Leaf}
-use Rattle.pool.specs.declared.answer.Answer.the-variants.{Done, Refused}
-use Rattle.pool.specs.declared.answer.Against.{Against}
-use Rattle.pool.specs.declared.answer.Against.the-variants.{Why, Nothing as Fine}
+use Rattle.outcome.specs.declared.answer.Answer.the-variants.{Done, Refused}
+use Rattle.outcome.specs.declared.answer.Against.{Against}
+use Rattle.outcome.specs.declared.answer.Against.the-variants.{Why, Nothing as Fine}
 use Rattle.ranges.specs.Ranges.{Filled, againstReading, cachedOf, insideOf}
 use Rattle.isolation.specs.Private.{Private}
 use Rattle.arrays.specs.Arrays.{writeArray}

@@ -10,8 +10,8 @@ use Rattle.tables.specs.Tables.{nodeOf}
 use Rattle.sound.specs.Facts.{Leaf, Lengths}
 use Rattle.sound.specs.Sound.{lengthsOk, sound}
 use Rattle.soundness.proofs.Soundness.{lengths-mean, facts-sound}
-use Rattle.pool.specs.declared.answer.Answer.the-variants.{Done, Refused}
-use Rattle.pool.specs.declared.answer.Refusal.the-variants.{NoMemory, BadPool, Stopped}
+use Rattle.outcome.specs.declared.answer.Answer.the-variants.{Done, Refused}
+use Rattle.outcome.specs.declared.answer.Refusal.the-variants.{NoMemory, BadPool, Stopped}
 use Rattle.pool.specs.Calls.{start}
 use Rattle.ranges.specs.Ranges.{againstReading}
 use Rattle.isolation.specs.Private.{Private}

@@ -7,9 +7,9 @@ use native.Mathlib.Omega.{arith}
 use Rattle.tables.specs.Pool.{Pool}
 use Rattle.tables.specs.Tables.{nodeOf}
 use Rattle.sound.specs.Facts.{Leaf}
-use Rattle.pool.specs.declared.answer.Answer.{Answer}
-use Rattle.pool.specs.declared.answer.Answer.the-variants.{Done, Refused}
-use Rattle.pool.specs.declared.answer.Refusal.the-variants.{NoMemory}
+use Rattle.outcome.specs.declared.answer.Answer.{Answer}
+use Rattle.outcome.specs.declared.answer.Answer.the-variants.{Done, Refused}
+use Rattle.outcome.specs.declared.answer.Refusal.the-variants.{NoMemory}
 use Rattle.pool.specs.Calls.{new}
 use Rattle.child.specs.Child.{createChild}
 use Rattle.ranges.specs.Ranges.{write}

@@ -5,7 +5,7 @@ use lib.ListN.{length}
 use Rattle.tables.specs.Pool.{Pool}
 use Rattle.frames.specs.Frames.{freeCount}
 use Rattle.sound.specs.Facts.{Leaf}
-use Rattle.pool.specs.declared.answer.Against.the-variants.{Nothing as Fine}
+use Rattle.outcome.specs.declared.answer.Against.the-variants.{Nothing as Fine}
 use Rattle.ranges.specs.Ranges.{againstWriting, againstCommitting}
 use Rattle.arrays.specs.Arrays.{touched, needs}
 use Rattle.runs.specs.Runs.{Call}

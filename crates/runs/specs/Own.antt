@@ -5,8 +5,8 @@ use Prim.Native.Nat.{ℕ}
 use lib.Dec.{eqb}
 use lib.ListN.{length, replicate}
 use Rattle.logic.specs.Pick.{pick}
-use Rattle.pool.specs.declared.answer.Answer.{Answer}
-use Rattle.pool.specs.declared.answer.Answer.the-variants.{Done, Refused}
+use Rattle.outcome.specs.declared.answer.Answer.{Answer}
+use Rattle.outcome.specs.declared.answer.Answer.the-variants.{Done, Refused}
 use Rattle.runs.specs.Runs.{Call, Reply, replyOf, Event, eventOf}
 use Rattle.runs.specs.Runs.Call.{New, Child, Read, Write, Commit}
 

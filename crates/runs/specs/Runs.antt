@@ -2,7 +2,7 @@
 use mathlib.Core.List.{List, [], _∷_}
 use Prim.Native.Nat.{ℕ}
 use Rattle.tables.specs.Pool.{Pool}
-use Rattle.pool.specs.declared.answer.Answer.{Answer}
+use Rattle.outcome.specs.declared.answer.Answer.{Answer}
 use Rattle.pool.specs.Calls.{start, new}
 use Rattle.child.specs.Child.{createChild}
 use Rattle.ranges.specs.Ranges.{read, write, commit}

@@ -15,7 +15,7 @@ use Rattle.node.specs.declared.Node.{Node}
 use Rattle.node.specs.Node.{hiddenOf, windowOf, outOf, sideOf}
 use Rattle.tables.specs.Tables.{nodeOf, slotAt}
 use Rattle.frames.specs.Frames.{freeFrameIn}
-use Rattle.notices.specs.Notices.{Told}
+use Rattle.outcome.specs.Told.{Told}
 use Rattle.lookup.specs.declared.Looked.the-variants as K
 use Rattle.lookup.specs.Work.{Work, workOf, Looking, lookingOf}
 use Rattle.lookup.specs.Lookup.{asksOf, other, cleared, fresh, freshBy, shareOr, hiddenStep, otherTold, leafTold, settle, settleBy, handed, handedBy, enter, look}

@@ -7,7 +7,7 @@ use lookup::Step;
 use node::Node;
 ghost use mathlib.Core.Path.{_≡_};
 ghost use Prim.Native.Nat.{_<_};
-ghost use Rattle.notices.specs.Notices.{toldOf};
+ghost use Rattle.outcome.specs.Told.{toldOf};
 ghost use Rattle.lookup.specs.Work.{workOf, lookingOf};
 ghost use Rattle.lookup.specs.Lookup.{look};
 ghost use Rattle.seek.specs.Seek.{movesOf, absentOf, climbsOf, hereOf, seek, seekPage};

@@ -8,7 +8,7 @@ use lib.ListN.{length, getD}
 use borrow.Author.Tests.{eq-eqb, le-leb, lt-ltb}
 use Rattle.tables.specs.Pool.{Pool}
 use Rattle.tables.specs.Tables.{nodeOf}
-use Rattle.notices.specs.Notices.{Told, toldOf}
+use Rattle.outcome.specs.Told.{Told, toldOf}
 use Rattle.lookup.specs.declared.Looked.{Looked}
 use Rattle.lookup.specs.Work.{Work}
 use Rattle.lookup.specs.Lookup.{look}

@@ -16,12 +16,12 @@ use Rattle.sound.specs.Sound.{sound}
 use Rattle.sound.specs.Facts.{Leaf, Sound}
 use Rattle.soundness.proofs.Soundness.{sound-facts}
 use Rattle.seek.specs.Seek.{seekPage}
-use Rattle.pool.specs.declared.answer.Answer.the-variants.{Done, Refused}
-use Rattle.pool.specs.declared.answer.Refusal.{Refusal}
-use Rattle.pool.specs.declared.answer.Refusal.the-variants.{BadPool, NoObject}
-use Rattle.pool.specs.declared.answer.Against.{Against}
-use Rattle.pool.specs.declared.answer.Against.the-variants.{Why, Nothing as Fine}
-use Rattle.pool.specs.Answers.{unless}
+use Rattle.outcome.specs.declared.answer.Answer.the-variants.{Done, Refused}
+use Rattle.outcome.specs.declared.answer.Refusal.{Refusal}
+use Rattle.outcome.specs.declared.answer.Refusal.the-variants.{BadPool, NoObject}
+use Rattle.outcome.specs.declared.answer.Against.{Against}
+use Rattle.outcome.specs.declared.answer.Against.the-variants.{Why, Nothing as Fine}
+use Rattle.outcome.specs.Answers.{unless}
 use Rattle.pool.specs.Calls.{findObject, atNode, onNode}
 use Rattle.page.specs.Pages.{readOf}
 use Rattle.ranges.specs.Ranges.{Filled, filled, unfilled, againstReading, readRange, readAt, read}

@@ -9,7 +9,7 @@ use Rattle.entry.specs.declared.Slot.the-variants.{Empty, Held}
 use Rattle.node.specs.Node.{hiddenOf}
 use Rattle.tables.specs.Pool.{Pool}
 use Rattle.tables.specs.Tables.{nodeOf, slotAt}
-use Rattle.notices.specs.Notices.{Told}
+use Rattle.outcome.specs.Told.{Told}
 use Rattle.lookup.specs.declared.Looked.{Looked}
 use Rattle.lookup.specs.declared.Looked.the-variants.{Shared}
 use Rattle.lookup.specs.Work.{workOf}

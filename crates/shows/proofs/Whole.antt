@@ -13,7 +13,7 @@ use Rattle.blocks.specs.declared.BlockRange.{BlockRange}
 use Rattle.blocks.specs.declared.Next.the-variants.{Block}
 use Rattle.blocks.specs.Blocks.{iterOf, nextOf, countOf}
 use Rattle.tables.specs.Pool.{Pool}
-use Rattle.notices.specs.Notices.{toldOf}
+use Rattle.outcome.specs.Told.{toldOf}
 use Rattle.lookup.specs.declared.Looked.{Looked}
 use Rattle.lookup.specs.Work.{workOf, Looking}
 use Rattle.lookup.specs.Lookup.{look}
@@ -21,7 +21,7 @@ use Rattle.sound.specs.Facts.{Leaf, Sound}
 use Rattle.seek.specs.declared.Sought.{Sought}
 use Rattle.seek.specs.declared.Sought.the-variants.{Shared, Zero, Absent, Moves, Stops}
 use Rattle.seek.specs.Seek.{seekPage}
-use Rattle.pool.specs.declared.answer.Against.the-variants.{Nothing as Fine}
+use Rattle.outcome.specs.declared.answer.Against.the-variants.{Nothing as Fine}
 use Rattle.page.specs.Each.{Part, partOf, onward, each}
 use Rattle.page.specs.Pages.{againstRead, Read, readOf, lookRead, readThrough, readBy, readPage}
 use Rattle.ranges.specs.Ranges.{filled, readRange}

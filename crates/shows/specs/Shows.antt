@@ -9,8 +9,8 @@ use Rattle.lookup.specs.declared.Looked.the-variants as K
 use Rattle.lookup.specs.Work.{Work, Looking}
 use Rattle.seek.specs.declared.Sought.{Sought}
 use Rattle.seek.specs.declared.Sought.the-variants.{Shared, Zero, Absent, Moves, Stops}
-use Rattle.pool.specs.declared.answer.Answer.the-variants.{Done, Refused}
-use Rattle.pool.specs.declared.answer.Refusal.{Refusal}
+use Rattle.outcome.specs.declared.answer.Answer.the-variants.{Done, Refused}
+use Rattle.outcome.specs.declared.answer.Refusal.{Refusal}
 use Rattle.ranges.specs.Ranges.{Filled}
 
 -- lookup answers the frame found, one of F, whether it would move or not, or zeros; the walk never ends without

@@ -4,10 +4,10 @@ use Rattle.forecast.proofs.absent.Statement.{statement}
 use Rattle.forecast.proofs.absent.Tie as tie
 
 returns : tie.Need-returns
-returns c = (absent-empty _ _ _ (c .before .before .before .if1 .taken) (c .before .before .slot-at .ensures) (c .enum-told .given .1), search needs)
+returns c = (absent-empty _ _ _ (c .before .before .slot-at .ensures) (c .enum-told .given .1), search needs)
 
 returns-2 : tie.Need-returns-2
-returns-2 c = (absent-held _ _ _ (c .before .before .before .if1 .taken) (c .before .before .slot-at .ensures) (c .enum-told2 .given .1), search needs)
+returns-2 c = (absent-held _ _ _ (c .before .before .slot-at .ensures) (c .enum-told2 .given .1), search needs)
 
 returns-3 : tie.Need-returns-3
 returns-3 c = (absent-past _ _ _ (c .if1 .left), search needs)

@@ -3,7 +3,8 @@ use mathlib.Core.Path.{_≡_, refl, _∙_}
 use Prim.Native.Nat.{_≤_, _-_}
 use native.Mathlib.Omega.{arith}
 use lib.ListN.{length}
-use Rattle.notices.specs.Notices.{toldOf, tellObject}
+use Rattle.outcome.specs.Told.{toldOf}
+use Rattle.notices.specs.Notices.{tellObject}
 use Rattle.notices.proofs.Laws.{object-next, object-end}
 use borrow.Author.Needs.{needs}
 use Rattle.notices.proofs.tell_object.Statement.{statement}

@@ -6,15 +6,16 @@ use Rattle.page.specs.Each.{each}
 use Rattle.page.specs.Pages.{readOf, readPage}
 use Rattle.ranges.specs.Ranges.{readRange}
 use Rattle.ranges.proofs.Laws.{each-end, each-stop, each-next}
+use Rattle.node.specs.Node.{byteLimit}
 use borrow.Author.Needs.{needs}
 use Rattle.ranges.proofs.reading.read_range.Statement.{statement}
 use Rattle.ranges.proofs.reading.read_range.Tie as tie
 
 abbrev Inv-loop : tie.InvT-loop
-Inv-loop nodes mappings pages₀ used₀ memory₀ node offset buf₀ it₀ left₀ pages used memory buf it left = (offset ≤ it .begin) × (it .end ≤ 17592186044416) × (length pages ≡ length pages₀) × (length used ≡ length used₀) × (length memory ≡ length memory₀) × (length buf ≡ length buf₀) × (each (readPage 4096 nodes mappings node offset) left it (readOf pages used memory buf) ≡ readRange 4096 nodes mappings node offset (readOf pages₀ used₀ memory₀ buf₀))
+Inv-loop nodes pages₀ used₀ mappings memory₀ node offset buf₀ it₀ left₀ pages used memory buf it left = (offset ≤ it .begin) × (it .end ≤ byteLimit) × (length pages ≡ length pages₀) × (length used ≡ length used₀) × (length memory ≡ length memory₀) × (length buf ≡ length buf₀) × (each (readPage 4096 nodes mappings node offset) left it (readOf pages used memory buf) ≡ readRange 4096 nodes mappings node offset (readOf pages₀ used₀ memory₀ buf₀))
 
 abbrev μ-loop : tie.MeasureT-loop
-μ-loop nodes mappings pages₀ used₀ memory₀ node offset buf₀ it₀ left₀ pages used memory buf it left = left
+μ-loop nodes pages₀ used₀ mappings memory₀ node offset buf₀ it₀ left₀ pages used memory buf it left = left
 
 loop-holds : tie.Need-loop-holds Inv-loop μ-loop
 unfolding readRange

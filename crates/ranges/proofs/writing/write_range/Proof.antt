@@ -2,21 +2,22 @@ use mathlib.Core.Path.{_≡_, refl, _∙_}
 use Prim.Native.Nat.{_≤_, _+_}
 use native.Mathlib.Omega.{arith}
 use lib.ListN.{length}
-use Rattle.notices.specs.Notices.{toldOf}
+use Rattle.outcome.specs.Told.{toldOf}
 use Rattle.lookup.specs.Work.{workOf}
 use Rattle.page.specs.Each.{each}
 use Rattle.page.specs.Pages.{writePage}
 use Rattle.ranges.specs.Ranges.{writeRange}
 use Rattle.ranges.proofs.Laws.{each-end, each-stop, each-next}
+use Rattle.node.specs.Node.{byteLimit}
 use borrow.Author.Needs.{needs}
 use Rattle.ranges.proofs.writing.write_range.Statement.{statement}
 use Rattle.ranges.proofs.writing.write_range.Tie as tie
 
 abbrev Inv-loop : tie.InvT-loop
-Inv-loop nodes mappings pages₀ used₀ memory₀ notices₀ node offset bytes it₀ left₀ count₀ pages used memory notices it left count = (offset ≤ it .begin) × (it .end ≤ 17592186044416) × (length pages ≡ length pages₀) × (length used ≡ length used₀) × (length memory ≡ length memory₀) × (length notices ≡ length notices₀) × (each (writePage 4096 nodes mappings node offset bytes) left it (workOf pages used memory (toldOf notices count)) ≡ writeRange 4096 nodes mappings node offset bytes (workOf pages₀ used₀ memory₀ (toldOf notices₀ 0)))
+Inv-loop nodes pages₀ used₀ mappings memory₀ notices₀ node offset bytes it₀ left₀ count₀ pages used memory notices it left count = (offset ≤ it .begin) × (it .end ≤ byteLimit) × (length pages ≡ length pages₀) × (length used ≡ length used₀) × (length memory ≡ length memory₀) × (length notices ≡ length notices₀) × (each (writePage 4096 nodes mappings node offset bytes) left it (workOf pages used memory (toldOf notices count)) ≡ writeRange 4096 nodes mappings node offset bytes (workOf pages₀ used₀ memory₀ (toldOf notices₀ 0)))
 
 abbrev μ-loop : tie.MeasureT-loop
-μ-loop nodes mappings pages₀ used₀ memory₀ notices₀ node offset bytes it₀ left₀ count₀ pages used memory notices it left count = left
+μ-loop nodes pages₀ used₀ mappings memory₀ notices₀ node offset bytes it₀ left₀ count₀ pages used memory notices it left count = left
 
 loop-holds : tie.Need-loop-holds Inv-loop μ-loop
 unfolding writeRange
