@@ -91,7 +91,7 @@ unfolding bornNodes
 records-done N b owner e s t h u r o v = rw (v, o, r, u, h, t, s, e)
 
 module _ (N P U M H Y list : List ℕ) (b : Birth) where
-  pub bear-done : {o k : ℕ} {N′ P′ H′ list′ : List ℕ} → o ≡ getD H 0 0 → N′ ≡ bornNodes N b o → P′ ≡ rowMoved P (b .node) (b .hidden) → H′ ≡ set H 0 (o + 1) → toldOf list′ k ≡ tellObject M (toldOf list 0) 64 (b .node) (b .first) (b .pages) removeWrite → outcomeOf (Done (b .child)) (poolOf N′ P′ U M H′ Y) (toldOf list′ k) 0 0 [] ≡ born (poolOf N P U M H Y) list b
+  pub bear-done : {o k : ℕ} {N′ P′ H′ list′ : List ℕ} → o ≡ getD H 0 0 → N′ ≡ bornNodes N b o → P′ ≡ rowMoved P (b .node) (b .hidden) → H′ ≡ set H 0 (o + 1) → toldOf list′ k ≡ tellObject M (toldOf list 0) 64 (b .node) (b .first) (b .first + b .pages) removeWrite → outcomeOf (Done (b .child)) (poolOf N′ P′ U M H′ Y) (toldOf list′ k) 0 0 [] ≡ born (poolOf N P U M H Y) list b
   unfolding born
   bear-done o n p h t = rw (n, p, h, o, t)
 

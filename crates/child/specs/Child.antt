@@ -49,7 +49,7 @@ born p list b =
     outcomeOf (Done (b .child))
     (poolOf (bornNodes (p .nodes) b (getD (p .head) 0 0)) (rowMoved (p .pages) (b .node) (b .hidden)) (p .used) (p .mappings)
     (set (p .head) 0 (getD (p .head) 0 0 + 1)) (p .memory))
-    (tellObject (p .mappings) (toldOf list 0) 64 (b .node) (b .first) (b .pages) removeWrite) 0 0 []
+    (tellObject (p .mappings) (toldOf list 0) 64 (b .node) (b .first) (b .first + b .pages) removeWrite) 0 0 []
 
 -- INVALID_ARGS: unaligned, or more than 64 pages asked; BAD_STATE: not Cached, or pinned, 772; OUT_OF_RANGE
 unfoldable pub againstChild : ℕ → Node → ℕ → ℕ → Against

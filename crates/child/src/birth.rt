@@ -1,5 +1,6 @@
 // The child's birth, after the tests (paged.rs 775 to 836).
 use node::Node;
+use notices::Span;
 use outcome::Answer;
 use outcome::Reply;
 ghost use mathlib.Core.Path.{_≡_};
@@ -66,15 +67,12 @@ pub fn bear(
     write_records(nodes, b, owner);
     tables::move_row(pages, b.node, b.hidden);
     tables::put(head, 0, owner + 1);
-    let told = notices::tell_object(
-        mappings,
-        notices,
-        0,
-        b.node,
-        b.first,
-        b.pages,
-        outcome::REMOVE_WRITE,
-    );
+    let span = Span {
+        lo: b.first as u64,
+        hi: b.first as u64 + b.pages as u64,
+        op: outcome::REMOVE_WRITE,
+    };
+    let told = notices::tell_object(mappings, notices, 0, b.node, span);
     let answer = Answer::Done(b.child as u64);
     Reply {
         answer,

@@ -2,16 +2,16 @@
 use mathlib.Core.Path.{_≡_, sym, _∙_}
 use mathlib.Core.Bool.{Bool, true, false}
 use mathlib.Core.List.{List, []}
-use Prim.Native.Nat.{ℕ, _*_, _%_, _≤_, _<_}
+use Prim.Native.Nat.{ℕ, _*_, _≤_, _<_}
 use native.Mathlib.Omega.{arith}
 use borrow.Author.Tests.{le-leb, lt-leb}
 use Rattle.node.specs.declared.Node.{Node}
 use Rattle.tables.specs.Pool.{poolOf}
 use Rattle.tables.specs.Tables.{nodeOf}
 use Rattle.outcome.specs.Told.{toldOf}
-use Rattle.lookup.specs.declared.Looked.{Looked}
-use Rattle.lookup.specs.Work.{Work, workOf, lookingOf}
-use Rattle.lookup.specs.Lookup.{look}
+use Rattle.lookup.specs.declared.Committed.{Committed}
+use Rattle.lookup.specs.Work.{Work, workOf}
+use Rattle.lookup.specs.Commit.{committingOf, commitLeaf}
 use Rattle.outcome.specs.declared.answer.Answer.{Answer}
 use Rattle.outcome.specs.declared.answer.Answer.the-variants.{Refused}
 use Rattle.outcome.specs.declared.answer.Refusal.{Refusal}
@@ -21,7 +21,7 @@ use Rattle.outcome.specs.declared.answer.Against.the-variants.{Why, Nothing as 
 use Rattle.outcome.specs.Room.{roomOf}
 use Rattle.outcome.specs.declared.reply.Reply.{Reply}
 use Rattle.outcome.specs.Outcome.{outcomeOf, outcome, replyOf}
-use Rattle.commit.specs.Commit.{lookedAnswer, pageRefusal, commitPageAt}
+use Rattle.commit.specs.Commit.{committedAnswer, pageRefusal, commitPageAt}
 
 module _ (N M list : List ℕ) (n page : ℕ) {r : Node} (e : r ≡ nodeOf N n) where
   pub page-out : (write : Bool) → r .size ≤ page → Why R.the-variants.OutOfRange ≡ pageRefusal N M list n page write
@@ -45,6 +45,6 @@ module _ (N P U M H Y list : List ℕ) (n page : ℕ) (write : Bool) {a : Agains
   unfolding commitPageAt
   commit-refused h r = rw (r, sym e ∙ h)
 
-  pub commit-done : {k : Looked} {w : Work} {r : Answer} → a ≡ Fine → lookingOf k w ≡ look 4096 64 N M (workOf P U Y (toldOf list 0)) n (page % 4294967296) write n → r ≡ lookedAnswer k → outcomeOf r (poolOf N (w .pages) (w .used) M H (w .memory)) (w .told) 0 0 [] ≡ commitPageAt 4096 (poolOf N P U M H Y) list n page write
+  pub commit-done : {k : Committed} {w : Work} {r : Answer} → a ≡ Fine → committingOf k w ≡ commitLeaf 4096 N M (workOf P U Y (toldOf list 0)) n page write → r ≡ committedAnswer k → outcomeOf r (poolOf N (w .pages) (w .used) M H (w .memory)) (w .told) 0 0 [] ≡ commitPageAt 4096 (poolOf N P U M H Y) list n page write
   unfolding commitPageAt
   commit-done h l r = rw (sym e ∙ h, ← l, r)

@@ -1,5 +1,6 @@
 // The call commit_page (paged.rs 520): one page looked up for reading or for writing.
-use lookup::Looked;
+use lookup::Ask;
+use lookup::Committed;
 use outcome::Against;
 use outcome::Answer;
 use outcome::Refusal;
@@ -7,21 +8,19 @@ use outcome::Reply;
 use pool::Entered;
 ghost use mathlib.Core.Path.{_≡_};
 ghost use mathlib.Core.List.{List, []};
-ghost use Prim.Native.Nat.{ℕ};
+ghost use Prim.Native.Nat.{ℕ, _≤_};
+ghost use Rattle.outcome.specs.declared.answer.Against.the-variants.{Nothing as Fine};
 ghost use Rattle.outcome.specs.Outcome.{outcome};
 ghost use Rattle.tables.specs.Pool.{poolOf};
-ghost use Rattle.commit.specs.Commit.{lookedAnswer, pageRefusal, commitPageAt, commitPage};
+ghost use Rattle.commit.specs.Commit.{committedAnswer, pageRefusal, commitPageAt, commitPage};
 
-fn looked_answer(looked: Looked) -> Answer
-    ensures { λ r. ⌜ r ≡ lookedAnswer looked ⌝ }
+fn committed_answer(committed: Committed) -> Answer
+    ensures { λ r. ⌜ r ≡ committedAnswer committed ⌝ }
 {
-    match looked {
-        Looked::Shared(f) => return Answer::Done(f as u64),
-        Looked::Zero => return Answer::Done(4294967295),
-        Looked::NoMemory => return Answer::Refused(Refusal::NoMemory),
-        Looked::Stopped => return Answer::Refused(Refusal::Stopped),
-        Looked::Own(_, _) => return Answer::Refused(Refusal::Stopped),
-        Looked::New(_) => return Answer::Refused(Refusal::Stopped),
+    match committed {
+        Committed::Frame(f) => return Answer::Done(f as u64),
+        Committed::ZeroFrame => return Answer::Done(4294967295),
+        Committed::Refused(why) => return Answer::Refused(why),
     }
 }
 
@@ -35,6 +34,7 @@ fn page_refusal(
     write: bool,
 ) -> Against
     ensures { λ r. ⌜ r ≡ pageRefusal (now (nodes .entry)) (now (mappings .entry)) (now (notices .entry)) node page write ⌝ }
+    ensures fits { λ r. ⌜ (r ≡ Fine → page ≤ 4294967296) ⌝ }
 {
     let n = tables::node_at(nodes, node);
     if n.size as u64 <= page {
@@ -69,21 +69,10 @@ fn commit_page_at(
     match against {
         Against::Why(why) => return Reply::refused(why),
         Against::Nothing => {
-            let i = (page % 4294967296) as u32;
-            let step = seek::find_page(
-                nodes,
-                mappings,
-                pages,
-                used,
-                memory,
-                notices,
-                0,
-                node,
-                i,
-                write,
-            );
-            let looked = step.looked;
-            let answer = looked_answer(looked);
+            let ask = Ask::of(node, page, write, 0);
+            let step = lookup::commit_page(nodes, pages, used, mappings, memory, notices, ask);
+            let committed = step.committed;
+            let answer = committed_answer(committed);
             return Reply {
                 answer,
                 done: 0,

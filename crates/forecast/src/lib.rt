@@ -17,14 +17,11 @@ fn absent(pages: &[u32], node: u32, page: u64) -> u64
     ensures { λ r. ⌜ r ≡ absentAt (now (pages .entry)) node page ⌝ }
     ensures small { λ r. ⌜ r ≤ 1 ⌝ }
 {
-    if page < 64 {
-        let slot = tables::slot_at(pages, node, page as u32);
-        match slot {
-            Slot::Empty => return 1,
-            Slot::Held(_) => return 0,
-        }
+    let slot = tables::slot_at(pages, node, page);
+    match slot {
+        Slot::Empty => return 1,
+        Slot::Held(_) => return 0,
     }
-    1
 }
 
 fn absent_in(pages: &[u32], node: u32, first: u64, count: u64) -> u64

@@ -3,3 +3,4 @@ pub mod Mode
 pub mod Level
 pub mod Lookup
 pub mod Descent
+pub mod Commit

@@ -1,11 +1,15 @@
 // Page lookup (commit_page_internal, paged.rs 531 to 640): a walk up the parents that moves nothing, and the descent of what it found.
+mod committing;
 mod descent;
 mod level;
 mod walking;
 
-pub use descent::find_page;
+pub use committing::commit_page;
 use entry::PageState;
+use outcome::Refusal;
 pub use walking::walk;
+ghost use mathlib.Core.Path.{_≡_};
+ghost use Rattle.lookup.specs.Commit.{askOf};
 
 // What a node answers to who asks it for a page.
 pub enum Looked {
@@ -38,6 +42,37 @@ pub struct Place {
 pub struct Ask {
     pub place: Place,
     pub write: bool,
+    pub count: usize,
+}
+
+impl Ask {
+    // An object asks for a page of its own.
+    pub fn of(node: u32, page: u64, write: bool, count: usize) -> Self
+        ensures { λ r. ⌜ r ≡ askOf node page write count ⌝ }
+    {
+        let place = Place {
+            node,
+            page,
+            asker: node,
+        };
+        Ask {
+            place,
+            write,
+            count,
+        }
+    }
+}
+
+// What page lookup gives: a frame, the shared zero frame, or a refusal.
+pub enum Committed {
+    Frame(u32),
+    ZeroFrame,
+    Refused(Refusal),
+}
+
+// The same, and how many notices the list has by then.
+pub struct Commit {
+    pub committed: Committed,
     pub count: usize,
 }
 

@@ -13,10 +13,10 @@ use Rattle.blocks.specs.Blocks.{nextOf}
 use Rattle.blocks.proofs.Cut.{First, first-of}
 use Rattle.frames.specs.Frames.{pastedAt, blankAt}
 use Rattle.outcome.specs.Told.{Told, toldOf}
-use Rattle.lookup.specs.declared.Looked.{Looked}
-use Rattle.lookup.specs.declared.Looked.the-variants.{Shared, Zero, Own, New, NoMemory, Stopped}
-use Rattle.lookup.specs.Work.{Work, workOf, Looking, lookingOf}
-use Rattle.lookup.specs.Lookup.{look}
+use Rattle.lookup.specs.declared.Committed.{Committed}
+use Rattle.lookup.specs.declared.Committed.the-variants.{Frame, ZeroFrame}
+use Rattle.lookup.specs.Work.{Work, workOf}
+use Rattle.lookup.specs.Commit.{Committing, committingOf, commitLeaf}
 use Rattle.outcome.specs.declared.answer.Refusal.{Refusal}
 use Rattle.outcome.specs.declared.answer.Against.{Against}
 use Rattle.outcome.specs.declared.answer.Against.the-variants.{Why, Nothing as Fine}
@@ -24,21 +24,21 @@ use Rattle.page.specs.Each.{partOf}
 use Rattle.page.specs.Pages.{againstWrite, storedBy, wrotePage, writeBy, writePage, committedOne, commitOne, readOf, againstRead, fetchedBy, readThrough, glanceOf, quiet, lookRead, readBy, readPage}
 
 -- bytes into a frame
-module _ (Y bytes : List ℕ) (from : ℕ) (b : BlockRange) (P U : List ℕ) (t : Told) {k : Looked} where
-  pub stored-all : {f n : ℕ} {Y′ : List ℕ} → k ≡ Shared f → n ≡ b .end - b .begin → Y′ ≡ pastedAt Y (f * 4096 + b .begin) bytes from n → workOf P U Y′ t ≡ storedBy 4096 bytes from b k (workOf P U Y t)
+module _ (Y bytes : List ℕ) (from : ℕ) (b : BlockRange) (P U : List ℕ) (t : Told) {k : Committed} where
+  pub stored-all : {f n : ℕ} {Y′ : List ℕ} → k ≡ Frame f → n ≡ b .end - b .begin → Y′ ≡ pastedAt Y (f * 4096 + b .begin) bytes from n → workOf P U Y′ t ≡ storedBy 4096 bytes from b k (workOf P U Y t)
   unfolding storedBy
   stored-all h n e = rw (h, e, n)
 
-  pub stored-none : {g : Looked} → k ≡ g → workOf P U Y t ≡ storedBy 4096 bytes from b g (workOf P U Y t) → workOf P U Y t ≡ storedBy 4096 bytes from b k (workOf P U Y t)
+  pub stored-none : {g : Committed} → k ≡ g → workOf P U Y t ≡ storedBy 4096 bytes from b g (workOf P U Y t) → workOf P U Y t ≡ storedBy 4096 bytes from b k (workOf P U Y t)
   stored-none h e = rw h e
 
 -- bytes out of a frame
-module _ (Y buf : List ℕ) (to : ℕ) (b : BlockRange) {k : Looked} where
-  pub fetched-all : {f n : ℕ} {B : List ℕ} → k ≡ Shared f → n ≡ b .end - b .begin → B ≡ pastedAt buf to Y (f * 4096 + b .begin) n → B ≡ fetchedBy 4096 to b k Y buf
+module _ (Y buf : List ℕ) (to : ℕ) (b : BlockRange) {k : Committed} where
+  pub fetched-all : {f n : ℕ} {B : List ℕ} → k ≡ Frame f → n ≡ b .end - b .begin → B ≡ pastedAt buf to Y (f * 4096 + b .begin) n → B ≡ fetchedBy 4096 to b k Y buf
   unfolding fetchedBy
   fetched-all h n e = rw (h, e, n)
 
-  pub fetched-zero : {n : ℕ} {B : List ℕ} → k ≡ Zero → n ≡ b .end - b .begin → B ≡ blankAt buf to n → B ≡ fetchedBy 4096 to b k Y buf
+  pub fetched-zero : {n : ℕ} {B : List ℕ} → k ≡ ZeroFrame → n ≡ b .end - b .begin → B ≡ blankAt buf to n → B ≡ fetchedBy 4096 to b k Y buf
   unfolding fetchedBy
   fetched-zero h n e = rw (h, e, n)
 
@@ -62,7 +62,7 @@ module _ (N M : List ℕ) (node offset : ℕ) (bytes : List ℕ) (it : BlockIter
   unfolding writePage writeBy
   write-none h = rw (sym e ∙ h)
 
-  module _ {b : BlockRange} {rest : BlockIter} {k : Looked} {v v′ : Work} {a : Against} (h : nx ≡ Block b rest) (l : lookingOf k v ≡ look 4096 64 N M w node (b .block) true node) (s : v′ ≡ storedBy 4096 bytes (it .begin - offset) b k v) (g : a ≡ againstWrite k) where
+  module _ {b : BlockRange} {rest : BlockIter} {k : Committed} {v v′ : Work} {a : Against} (h : nx ≡ Block b rest) (l : committingOf k v ≡ commitLeaf 4096 N M w node (b .block) true) (s : v′ ≡ storedBy 4096 bytes (it .begin - offset) b k v) (g : a ≡ againstWrite k) where
     pub write-stops : {r : Refusal} → a ≡ Why r → partOf (Why r) it v′ ≡ writePage 4096 N M node offset bytes it w
     unfolding writePage writeBy wrotePage
     write-stops t = rw (sym e ∙ h, ← l, sym g ∙ t, s)
@@ -72,7 +72,7 @@ module _ (N M : List ℕ) (node offset : ℕ) (bytes : List ℕ) (it : BlockIter
     write-on t = rw (sym e ∙ h, ← l, sym g ∙ t, s)
 
 -- one page of a commit
-module _ (N M : List ℕ) (node i : ℕ) (w : Work) {k : Looked} {v : Work} {a : Against} (l : lookingOf k v ≡ look 4096 64 N M w node i true node) (g : a ≡ againstWrite k) where
+module _ (N M : List ℕ) (node i : ℕ) (w : Work) {k : Committed} {v : Work} {a : Against} (l : committingOf k v ≡ commitLeaf 4096 N M w node i true) (g : a ≡ againstWrite k) where
   pub commit-stops : {r : Refusal} → a ≡ Why r → partOf (Why r) i v ≡ commitOne 4096 N M node i w
   unfolding commitOne committedOne
   commit-stops t = rw (← l, sym g ∙ t)
@@ -82,7 +82,7 @@ module _ (N M : List ℕ) (node i : ℕ) (w : Work) {k : Looked} {v : Work} {a :
   commit-on t = rw (← l, sym g ∙ t)
 
 -- one page of a read
-pub look-quiet : (N M P U Y : List ℕ) (node i : ℕ) {k : Looked} {P′ U′ Y′ : List ℕ} {t : Told} → lookingOf k (workOf P′ U′ Y′ t) ≡ look 4096 64 N M (workOf P U Y (toldOf [] 0)) node i false node → glanceOf k P′ U′ Y′ ≡ lookRead 4096 N M P U Y node i
+pub look-quiet : (N M P U Y : List ℕ) (node i : ℕ) {k : Committed} {P′ U′ Y′ : List ℕ} {t : Told} → committingOf k (workOf P′ U′ Y′ t) ≡ commitLeaf 4096 N M (workOf P U Y (toldOf [] 0)) node i false → glanceOf k P′ U′ Y′ ≡ lookRead 4096 N M P U Y node i
 unfolding lookRead
 look-quiet N M P U Y node i e = ap quiet e
 
@@ -91,7 +91,7 @@ module _ (N M : List ℕ) (node offset : ℕ) (it : BlockIter) (P U Y buf : List
   unfolding readPage readBy
   read-none h = rw (sym e ∙ h)
 
-  module _ {b : BlockRange} {rest : BlockIter} {k : Looked} {P′ U′ Y′ B : List ℕ} {a : Against} (h : nx ≡ Block b rest) (l : glanceOf k P′ U′ Y′ ≡ lookRead 4096 N M P U Y node (b .block)) (s : B ≡ fetchedBy 4096 (it .begin - offset) b k Y′ buf) (g : a ≡ againstRead k) where
+  module _ {b : BlockRange} {rest : BlockIter} {k : Committed} {P′ U′ Y′ B : List ℕ} {a : Against} (h : nx ≡ Block b rest) (l : glanceOf k P′ U′ Y′ ≡ lookRead 4096 N M P U Y node (b .block)) (s : B ≡ fetchedBy 4096 (it .begin - offset) b k Y′ buf) (g : a ≡ againstRead k) where
     pub read-stops : {r : Refusal} → a ≡ Why r → partOf (Why r) it (readOf P′ U′ Y′ B) ≡ readPage 4096 N M node offset it (readOf P U Y buf)
     unfolding readPage readBy readThrough
     read-stops t = rw (sym e ∙ h, ← l, sym g ∙ t, s)

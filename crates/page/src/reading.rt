@@ -3,35 +3,32 @@ use crate::ReadPart;
 use blocks::BlockIter;
 use blocks::BlockRange;
 use blocks::Next;
-use lookup::Looked;
+use lookup::Ask;
+use lookup::Committed;
 use outcome::Against;
-use outcome::Refusal;
 ghost use mathlib.Core.Path.{_≡_};
 ghost use Prim.Native.Nat.{_≤_};
 ghost use Rattle.node.specs.Node.{byteLimit};
 ghost use Rattle.page.specs.Each.{partOf};
 ghost use Rattle.page.specs.Pages.{readOf, againstRead, fetchedBy, glanceOf, lookRead, readPage};
 
-fn against_read(looked: Looked) -> Against
-    ensures { λ r. ⌜ r ≡ againstRead looked ⌝ }
+fn against_read(committed: Committed) -> Against
+    ensures { λ r. ⌜ r ≡ againstRead committed ⌝ }
 {
-    match looked {
-        Looked::Shared(_) => return Against::Nothing,
-        Looked::Zero => return Against::Nothing,
-        Looked::NoMemory => return Against::Why(Refusal::NoMemory),
-        Looked::Stopped => return Against::Why(Refusal::Stopped),
-        Looked::Own(_, _) => return Against::Why(Refusal::Stopped),
-        Looked::New(_) => return Against::Why(Refusal::Stopped),
+    match committed {
+        Committed::Frame(_) => return Against::Nothing,
+        Committed::ZeroFrame => return Against::Nothing,
+        Committed::Refused(why) => return Against::Why(why),
     }
 }
 
 // The block of the page's frame, or zeros, to its place in the buffer.
-fn fetch(memory: &[u8], looked: Looked, b: BlockRange, buf: &mut [u8], to: u64)
+fn fetch(memory: &[u8], committed: Committed, b: BlockRange, buf: &mut [u8], to: u64)
     requires { ⌜ (b .begin ≤ b .end) × (b .end ≤ 4096) × (to ≤ byteLimit) ⌝ }
-    ensures { λ _. ⌜ now (buf .exit) ≡ fetchedBy 4096 to b looked (now (memory .entry)) (now (buf .entry)) ⌝ }
+    ensures { λ _. ⌜ now (buf .exit) ≡ fetchedBy 4096 to b committed (now (memory .entry)) (now (buf .entry)) ⌝ }
 {
-    match looked {
-        Looked::Shared(f) => {
+    match committed {
+        Committed::Frame(f) => {
             frames::paste(
                 buf,
                 to as usize,
@@ -40,11 +37,8 @@ fn fetch(memory: &[u8], looked: Looked, b: BlockRange, buf: &mut [u8], to: u64)
                 b.len() as usize,
             );
         }
-        Looked::Zero => frames::blank(buf, to as usize, b.len() as usize),
-        Looked::NoMemory => {}
-        Looked::Stopped => {}
-        Looked::Own(_, _) => {}
-        Looked::New(_) => {}
+        Committed::ZeroFrame => frames::blank(buf, to as usize, b.len() as usize),
+        Committed::Refused(_) => {}
     }
 }
 
@@ -56,26 +50,17 @@ fn find_read(
     mappings: &[u32],
     memory: &mut [u8],
     node: u32,
-    page: u32,
-) -> Looked
+    page: u64,
+) -> Committed
+    requires { ⌜ page ≤ 4294967296 ⌝ }
     ensures { λ r. ⌜
         glanceOf r (now (pages .exit)) (now (used .exit)) (now (memory .exit))
         ≡ lookRead 4096 (now (nodes .entry)) (now (mappings .entry)) (now (pages .entry)) (now (used .entry)) (now (memory .entry)) node page ⌝ }
 {
     let mut none: [u32; 0] = [];
-    let step = seek::find_page(
-        nodes,
-        mappings,
-        pages,
-        used,
-        memory,
-        &mut none,
-        0,
-        node,
-        page,
-        false,
-    );
-    step.looked
+    let ask = Ask::of(node, page, false, 0);
+    let step = lookup::commit_page(nodes, pages, used, mappings, memory, &mut none, ask);
+    step.committed
 }
 
 pub fn read_page(
@@ -102,9 +87,9 @@ pub fn read_page(
             return ReadPart { why, rest: it };
         }
         Next::Block(b, rest) => {
-            let looked = find_read(nodes, pages, used, mappings, memory, node, b.block as u32);
-            fetch(memory, looked, b, buf, it.begin - offset);
-            let why = against_read(looked);
+            let committed = find_read(nodes, pages, used, mappings, memory, node, b.block);
+            fetch(memory, committed, b, buf, it.begin - offset);
+            let why = against_read(committed);
             match why {
                 Against::Why(r) => {
                     let why = Against::Why(r);

@@ -4,7 +4,8 @@ use crate::WritePart;
 use blocks::BlockIter;
 use blocks::BlockRange;
 use blocks::Next;
-use lookup::Looked;
+use lookup::Ask;
+use lookup::Committed;
 use outcome::Against;
 use outcome::Refusal;
 ghost use mathlib.Core.Path.{_≡_};
@@ -16,26 +17,23 @@ ghost use Rattle.lookup.specs.Work.{workOf};
 ghost use Rattle.page.specs.Each.{partOf};
 ghost use Rattle.page.specs.Pages.{againstWrite, storedBy, writePage, commitOne};
 
-fn against_write(looked: Looked) -> Against
-    ensures { λ r. ⌜ r ≡ againstWrite looked ⌝ }
+fn against_write(committed: Committed) -> Against
+    ensures { λ r. ⌜ r ≡ againstWrite committed ⌝ }
 {
-    match looked {
-        Looked::Shared(_) => return Against::Nothing,
-        Looked::NoMemory => return Against::Why(Refusal::NoMemory),
-        Looked::Zero => return Against::Why(Refusal::Stopped),
-        Looked::Stopped => return Against::Why(Refusal::Stopped),
-        Looked::Own(_, _) => return Against::Why(Refusal::Stopped),
-        Looked::New(_) => return Against::Why(Refusal::Stopped),
+    match committed {
+        Committed::Frame(_) => return Against::Nothing,
+        Committed::ZeroFrame => return Against::Why(Refusal::Stopped),
+        Committed::Refused(why) => return Against::Why(why),
     }
 }
 
 // The block's bytes, from `from` on, into the page's frame.
-fn store(memory: &mut [u8], looked: Looked, b: BlockRange, bytes: &[u8], from: u64)
+fn store(memory: &mut [u8], committed: Committed, b: BlockRange, bytes: &[u8], from: u64)
     requires { ⌜ (b .begin ≤ b .end) × (b .end ≤ 4096) × (from ≤ byteLimit) ⌝ }
-    ensures { λ _. ⌜ ((P U : List ℕ) (t : Told) → workOf P U (now (memory .exit)) t ≡ storedBy 4096 (now (bytes .entry)) from b looked (workOf P U (now (memory .entry)) t)) ⌝ }
+    ensures { λ _. ⌜ ((P U : List ℕ) (t : Told) → workOf P U (now (memory .exit)) t ≡ storedBy 4096 (now (bytes .entry)) from b committed (workOf P U (now (memory .entry)) t)) ⌝ }
 {
-    match looked {
-        Looked::Shared(f) => {
+    match committed {
+        Committed::Frame(f) => {
             frames::paste(
                 memory,
                 f as usize * 4096 + b.begin as usize,
@@ -44,11 +42,8 @@ fn store(memory: &mut [u8], looked: Looked, b: BlockRange, bytes: &[u8], from: u
                 b.len() as usize,
             );
         }
-        Looked::NoMemory => {}
-        Looked::Zero => {}
-        Looked::Stopped => {}
-        Looked::Own(_, _) => {}
-        Looked::New(_) => {}
+        Committed::ZeroFrame => {}
+        Committed::Refused(_) => {}
     }
 }
 
@@ -79,22 +74,12 @@ pub fn write_page(
             return WritePart { why, rest, count };
         }
         Next::Block(b, rest) => {
-            let step = seek::find_page(
-                nodes,
-                mappings,
-                pages,
-                used,
-                memory,
-                notices,
-                count,
-                node,
-                b.block as u32,
-                true,
-            );
-            let looked = step.looked;
+            let ask = Ask::of(node, b.block, true, count);
+            let step = lookup::commit_page(nodes, pages, used, mappings, memory, notices, ask);
+            let committed = step.committed;
             let count = step.count;
-            store(memory, looked, b, bytes, it.begin - offset);
-            let why = against_write(looked);
+            store(memory, committed, b, bytes, it.begin - offset);
+            let why = against_write(committed);
             match why {
                 Against::Why(r) => {
                     let why = Against::Why(r);
@@ -127,20 +112,10 @@ pub fn commit_one(
         ≡ commitOne 4096 (now (nodes .entry)) (now (mappings .entry)) node page (workOf (now (pages .entry)) (now (used .entry)) (now (memory .entry)) (toldOf (now (notices .entry)) count)) ⌝ }
     ensures near { λ r. ⌜ r .rest ≤ page + 1 ⌝ }
 {
-    let step = seek::find_page(
-        nodes,
-        mappings,
-        pages,
-        used,
-        memory,
-        notices,
-        count,
-        node,
-        page as u32,
-        true,
-    );
-    let looked = step.looked;
-    let why = against_write(looked);
+    let ask = Ask::of(node, page, true, count);
+    let step = lookup::commit_page(nodes, pages, used, mappings, memory, notices, ask);
+    let committed = step.committed;
+    let why = against_write(committed);
     match why {
         Against::Why(r) => {
             let why = Against::Why(r);

@@ -1,32 +1,33 @@
 use borrow.Author.Needs.{needs}
 use Rattle.page.proofs.reading.against_read.Statement.{statement}
 use Rattle.page.proofs.reading.against_read.Tie as tie
+use Rattle.page.proofs.reading.against_read.Reads as reads
+use Rattle.page.proofs.reading.against_read.Lts as lts
 
+-- src/reading.rt:19:32
+enum-told : tie.Need-enum-told
+enum-told c = search needs
+
+-- src/reading.rt:19:32
+returns : tie.Need-returns
+returns c = search needs
+
+-- src/reading.rt:20:33
+enum-told-2 : tie.Need-enum-told-2
+enum-told-2 c = search needs
+
+-- src/reading.rt:20:33
+returns-2 : tie.Need-returns-2
+returns-2 c = search needs
+
+-- src/reading.rt:21:28
+enum-known-committed : tie.Need-enum-known-committed
+enum-known-committed c = search needs
+
+-- src/reading.rt:21:36
 returns-3 : tie.Need-returns-3
-returns-3 c = rw (c .enum-told3 .given .1)
-
-returns-4 : tie.Need-returns-4
-returns-4 c = rw (c .enum-told4 .given .1)
-
-returns-5 : tie.Need-returns-5
-returns-5 c = rw (c .enum-told5 .given .1)
-
-returns-6 : tie.Need-returns-6
-returns-6 c = rw (c .enum-told6 .given .1)
+returns-3 c = rw (c .before .committed .given .1)
 
 pub against-read-spec : {M : Type 1} → statement M
 against-read-spec =
-    tie.close
-    (tie.spec
-    (λ c. search needs)
-    (λ c. search needs)
-    (λ c. search needs)
-    (λ c. search needs)
-    (λ c. search needs)
-    returns-3
-    (λ c. search needs)
-    returns-4
-    (λ c. search needs)
-    returns-5
-    (λ c. search needs)
-    returns-6)
+    tie.close (tie.spec enum-told returns enum-told-2 returns-2 enum-known-committed returns-3)

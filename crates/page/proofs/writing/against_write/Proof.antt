@@ -1,35 +1,33 @@
 use borrow.Author.Needs.{needs}
 use Rattle.page.proofs.writing.against_write.Statement.{statement}
 use Rattle.page.proofs.writing.against_write.Tie as tie
+use Rattle.page.proofs.writing.against_write.Reads as reads
+use Rattle.page.proofs.writing.against_write.Lts as lts
 
+-- src/writing.rt:24:32
+enum-told : tie.Need-enum-told
+enum-told c = search needs
+
+-- src/writing.rt:24:32
+returns : tie.Need-returns
+returns c = search needs
+
+-- src/writing.rt:25:53
+enum-told-2 : tie.Need-enum-told-2
+enum-told-2 c = search needs
+
+-- src/writing.rt:25:33
 returns-2 : tie.Need-returns-2
 returns-2 c = rw (c .enum-told2 .given .1)
 
+-- src/writing.rt:26:28
+enum-known-committed : tie.Need-enum-known-committed
+enum-known-committed c = search needs
+
+-- src/writing.rt:26:36
 returns-3 : tie.Need-returns-3
-returns-3 c = rw (c .enum-told3 .given .1)
-
-returns-4 : tie.Need-returns-4
-returns-4 c = rw (c .enum-told4 .given .1)
-
-returns-5 : tie.Need-returns-5
-returns-5 c = rw (c .enum-told5 .given .1)
-
-returns-6 : tie.Need-returns-6
-returns-6 c = rw (c .enum-told6 .given .1)
+returns-3 c = rw (c .before .committed .given .1)
 
 pub against-write-spec : {M : Type 1} → statement M
 against-write-spec =
-    tie.close
-    (tie.spec
-    (λ c. search needs)
-    (λ c. search needs)
-    (λ c. search needs)
-    returns-2
-    (λ c. search needs)
-    returns-3
-    (λ c. search needs)
-    returns-4
-    (λ c. search needs)
-    returns-5
-    (λ c. search needs)
-    returns-6)
+    tie.close (tie.spec enum-told returns enum-told-2 returns-2 enum-known-committed returns-3)

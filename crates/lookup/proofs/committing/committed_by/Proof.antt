@@ -1,6 +1,7 @@
+-- `lookup::committing::committed_by` meets its contract.
 use borrow.Author.Needs.{needs}
-use Rattle.commit.proofs.looked_answer.Statement.{statement}
-use Rattle.commit.proofs.looked_answer.Tie as tie
+use Rattle.lookup.proofs.committing.committed_by.Statement.{statement}
+use Rattle.lookup.proofs.committing.committed_by.Tie as tie
 
 returns : tie.Need-returns
 returns c = rw (c .before .looked .given .1)
@@ -17,11 +18,10 @@ returns-5 c = rw (c .enum-told4 .given .1)
 returns-6 : tie.Need-returns-6
 returns-6 c = rw (c .enum-told5 .given .1)
 
-pub looked-answer-spec : {M : Type 1} → statement M
-looked-answer-spec =
+pub committed-by-spec : {M : Type 1} → statement M
+committed-by-spec =
     tie.close
     (tie.spec
-    (λ c. search needs)
     (λ c. search needs)
     returns
     (λ c. search needs)
