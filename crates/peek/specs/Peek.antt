@@ -1,5 +1,5 @@
 -- The call peek on a pool of pages of L bytes: one page's bytes as a read would give them, and nothing moved.
-use Prim.Native.Nat.{ℕ, _+_, _-_, _*_}
+use Prim.Native.Nat.{ℕ, _+_, _*_}
 use mathlib.Core.Bool.{Bool, false, _&&_}
 use mathlib.Core.List.{List, []}
 use lib.Dec.{eqb, leb}
@@ -11,7 +11,8 @@ use Rattle.seek.specs.declared.Sought.{Sought}
 use Rattle.seek.specs.declared.Sought.the-variants.{Shared, Zero, Absent, Moves, Stops}
 use Rattle.seek.specs.Seek.{seekPage}
 use Rattle.outcome.specs.Answers.{unless}
-use Rattle.pool.specs.Calls.{onNode}
+use Rattle.outcome.specs.Outcome.{Numbers, numbersOf}
+use Rattle.pool.specs.Calls.{onObject}
 use Rattle.ranges.specs.Ranges.{againstReading}
 use Rattle.peek.specs.declared.Place.{Place}
 use Rattle.peek.specs.declared.Place.the-variants.{Frame, ZeroPage, Nowhere}
@@ -37,11 +38,11 @@ placeAt L p n page =
     unless (againstReading L (p .nodes) n (page * L) L) (λ r. Nowhere) (placeBy (seekPage (p .nodes) (p .pages) n page false))
 
 unfoldable pub place : ℕ → Pool → List ℕ → ℕ → ℕ → Place
-place L p zero object page = pick (zeroPageOf L zero) (onNode L p object (λ r. Nowhere) (λ n. placeAt L p n page)) Nowhere
+place L p zero object page = pick (zeroPageOf L zero) (onObject L p object (λ r. Nowhere) (λ n. placeAt L p n page)) Nowhere
 
 -- a frame's bytes
 unfoldable pub frameBytes : ℕ → List ℕ → ℕ → List ℕ
-frameBytes L memory f = pick (leb (f * L + L) (length memory)) (take (f * L + L - f * L) (drop (f * L) memory)) []
+frameBytes L memory f = pick (leb (f * L + L) (length memory)) (take L (drop (f * L) memory)) []
 
 abbrev pub shownAt : ℕ → List ℕ → List ℕ → Place → List ℕ
 shownAt L memory zero (Frame f) = frameBytes L memory f
@@ -50,3 +51,9 @@ shownAt L memory zero Nowhere = []
 
 unfoldable pub peek : ℕ → Pool → List ℕ → ℕ → ℕ → List ℕ
 peek L p zero object page = shownAt L (p .memory) zero (place L p zero object page)
+
+-- for the export: 0 nowhere, 1 in a frame, whose number is the value, 2 in the zero page
+abbrev pub placeNumbers : Place → Numbers
+placeNumbers (Frame f) = numbersOf 1 f
+placeNumbers ZeroPage = numbersOf 2 0
+placeNumbers Nowhere = numbersOf 0 0

@@ -1,17 +1,41 @@
 // The call peek: one page's bytes as a read would give them, without a copy and with nothing moved.
-use logic::Found;
+use pool::Entered;
 use seek::Sought;
 ghost use mathlib.Core.Path.{_≡_};
 ghost use mathlib.Core.List.{List};
 ghost use Prim.Native.Nat.{ℕ};
 ghost use Rattle.tables.specs.Pool.{poolOf};
-ghost use Rattle.peek.specs.Peek.{zeroPageOf, placeBy, placeAt, place, frameBytes, peek};
+ghost use Rattle.peek.specs.Peek.{zeroPageOf, placeBy, placeAt, place, frameBytes, peek, placeNumbers};
 
 // Where a page's bytes are.
 pub enum Place {
     Frame(u32),
     ZeroPage,
     Nowhere,
+}
+
+impl Place {
+    // For the export: 0 nowhere, 1 in a frame, 2 in the zero page.
+    pub fn code(self) -> u32
+        ensures { λ r. ⌜ r ≡ placeNumbers self .code ⌝ }
+    {
+        match self {
+            Place::Frame(_) => 1,
+            Place::ZeroPage => 2,
+            Place::Nowhere => 0,
+        }
+    }
+
+    // The frame's number, else 0.
+    pub fn value(self) -> u64
+        ensures { λ r. ⌜ r ≡ placeNumbers self .value ⌝ }
+    {
+        match self {
+            Place::Frame(f) => f as u64,
+            Place::ZeroPage => 0,
+            Place::Nowhere => 0,
+        }
+    }
 }
 
 fn is_zero_page(zero: &[u8]) -> bool
@@ -46,7 +70,7 @@ fn place_at(nodes: &[u32], pages: &[u32], node: u32, page: u64) -> Place
     ensures { λ r. ⌜ ((U M H Y : List ℕ) → r ≡ placeAt 4096 (poolOf (now (nodes .entry)) (now (pages .entry)) U M H Y) node page) ⌝ }
 {
     let n = tables::node_at(nodes, node);
-    if n.cache_policy != 0 {
+    if !n.is_cached() {
         return Place::Nowhere;
     }
     if page < n.size as u64 {
@@ -73,14 +97,11 @@ pub fn find(
     if !is_zero_page(zero) {
         return Place::Nowhere;
     }
-    if sound::is_sound(nodes, pages, used, mappings, head, memory) {
-        let found = pool::find_object(nodes, object);
-        match found {
-            Found::At(node) => return place_at(nodes, pages, node, page),
-            Found::Nothing => return Place::Nowhere,
-        }
+    let entered = pool::enter(nodes, pages, used, mappings, head, memory, object);
+    match entered {
+        Entered::At(node) => return place_at(nodes, pages, node, page),
+        Entered::Refused(_) => return Place::Nowhere,
     }
-    Place::Nowhere
 }
 
 fn frame_bytes(memory: &[u8], frame: u32) -> &[u8]
