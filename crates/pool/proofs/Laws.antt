@@ -7,8 +7,9 @@ use native.Mathlib.Omega.{arith}
 use lib.Dec.{ltb, leb}
 use lib.ListN.{length, getD, set, drop, replicate}
 use lib.Seq.{drop-length}
-use borrow.Author.Tests.{le-leb, lt-leb, lt-ltb, le-ltb}
+use borrow.Author.Tests.{le-leb, lt-leb, lt-ltb, le-ltb, ltb-true}
 use borrow.Author.Fill.{fill-more}
+use Rattle.logic.specs.Pick.{pick}
 use Rattle.logic.specs.declared.Found.{Found}
 use Rattle.logic.specs.declared.Found.the-variants.{At as Free, Nothing}
 use Rattle.node.specs.declared.Node.{Node}
@@ -84,6 +85,20 @@ module _ {A : Type 0} (B : A → Type 0) (L : ℕ) (p : Pool) (object : ℕ) {re
       by : (e : Entered) → B (onEntered refuse does e)
       by (At n) = d n
       by (Refused r) = h r
+
+-- and what the tests found is known of each
+module _ {A : Type 0} (B : A → Type 0) (L : ℕ) (p : Pool) (object : ℕ) {refuse : Refusal → A} {does : ℕ → A} (bad : sound L p ≡ false → B (refuse BadPool)) (none : B (refuse NoObject))
+    (go : sound L p ≡ true → object < 64 → leafOf (nodeOf (p .nodes) object) ≡ true → B (does object)) where
+  pub on-leaf : B (onObject L p object refuse does)
+  unfolding onObject onEntered entered
+  on-leaf = by (sound L p) refl (ltb object 64) refl (leafOf (nodeOf (p .nodes) object)) refl
+    where
+      by : (s : Bool) → sound L p ≡ s → (a : Bool) → ltb object 64 ≡ a → (b : Bool) → leafOf (nodeOf (p .nodes) object) ≡ b
+          → B (onEntered refuse does (pick s (pick (a && b) (At object) (Refused NoObject)) (Refused BadPool)))
+      by false s a l b h = bad s
+      by true s true l true h = go s (ltb-true object 64 l) h
+      by true s true l false h = none
+      by true s false l b h = none
 
 module _ (N P U M H Y : List ℕ) (size : ℕ) {r : Reply} where
   pub leaf-new : {N′ H′ : List ℕ} {o i : ℕ} {f : Found} {n : Node} → o ≡ getD H 0 0 → o ≤ lastOwner → f ≡ freeNodeIn N → f ≡ Free i → n ≡ originNode size o → N′ ≡ withNode N i n → H′ ≡ set H 0 (o + 1) → r ≡ replyOf (Done i) → outcome r (poolOf N′ P U M H′ Y) [] [] ≡ newLeaf (poolOf N P U M H Y) size

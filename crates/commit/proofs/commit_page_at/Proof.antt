@@ -1,85 +1,38 @@
+-- `commit::commit_page_at` meets its contract.
 use Rattle.commit.proofs.Laws.{commit-refused, commit-done}
 use borrow.Author.Needs.{needs}
 use Rattle.commit.proofs.commit_page_at.Statement.{statement}
 use Rattle.commit.proofs.commit_page_at.Tie as tie
-use Rattle.commit.proofs.commit_page_at.Reads as reads
-use Rattle.commit.proofs.commit_page_at.Lts as lts
-use Rattle.commit.proofs.looked_answer.Reads as looked-answer-reads
-use Rattle.commit.proofs.page_refusal.Reads as page-refusal-reads
-use Rattle.outcome.proofs.reply.Reply.refused.Reads as refused-reads
-use Rattle.seek.proofs.find_page.Reads as find-page-reads
 
--- src/lib.rt:68:9
-page-refusal-requires : tie.Need-page-refusal-requires
-page-refusal-requires c κs = search needs
-
--- src/lib.rt:70:22
-enum-known-against : tie.Need-enum-known-against
-enum-known-against c = search needs
-
--- src/lib.rt:70:30
-refused-requires : tie.Need-refused-requires
-refused-requires c κs = search needs
-
--- src/lib.rt:70:30
-same-length : tie.Need-same-length
-same-length c = search needs
-
--- src/lib.rt:70:30
 returns : tie.Need-returns
-returns c = λ head. commit-refused _ _ _ _ head _ _ _ _ _ (c .before .before .before .before .page-refusal .ensures) (c .before .before .against .given .1) (c .refused .ensures)
+returns c =
+    let at-page-refusal = c .before .before .before .before in
+    λ head. commit-refused _ _ _ _ head _ _ _ _ _ (at-page-refusal .page-refusal .ensures) (c .before .before .against .given .1)
+    (c .refused .ensures)
 
--- src/lib.rt:72:22
-enum-told : tie.Need-enum-told
-enum-told c = search needs
-
--- src/lib.rt:72:21
-cast-i : tie.Need-cast-i
-cast-i c = search needs
-
--- src/lib.rt:73:17
-find-page-requires : tie.Need-find-page-requires
-find-page-requires c κs = search needs
-
--- src/lib.rt:86:17
-looked-answer-requires : tie.Need-looked-answer-requires
-looked-answer-requires c κs = search needs
-
--- src/lib.rt:87:13
-same-length-2 : tie.Need-same-length-2
-same-length-2 c = search needs
-
--- src/lib.rt:87:13
-same-length-3 : tie.Need-same-length-3
-same-length-3 c = search needs
-
--- src/lib.rt:87:13
-same-length-4 : tie.Need-same-length-4
-same-length-4 c = search needs
-
--- src/lib.rt:87:13
-same-length-5 : tie.Need-same-length-5
-same-length-5 c = search needs
-
--- src/lib.rt:87:13
 returns-2 : tie.Need-returns-2
-returns-2 c = λ head. commit-done _ _ _ _ head _ _ _ _ _ (c .before .before .before .before .before .before .before .before .before .before .before .before .before .before .before .before .page-refusal .ensures) (c .before .before .before .before .before .before .before .before .before .before .before .before .before .before .enum-told .given .1) (c .before .before .before .before .before .before .before .before .before .find-page .ensures) (c .looked-answer .ensures)
+returns-2 c =
+    let at-find-page = c .before .before .before .before .before .before .before .before .before in
+    let at-enum-told = at-find-page .before .before .before .before .before in
+    let at-page-refusal = at-enum-told .before .before in
+    λ head. commit-done _ _ _ _ head _ _ _ _ _ (at-page-refusal .page-refusal .ensures) (at-enum-told .enum-told .given .1)
+    (at-find-page .find-page .ensures) (c .looked-answer .ensures)
 
 pub commit-page-at-spec : {M : Type 1} → statement M
 commit-page-at-spec =
     tie.close
     (tie.spec
-    page-refusal-requires
-    enum-known-against
-    refused-requires
-    same-length
+    (λ c κs. search needs)
+    (λ c. search needs)
+    (λ c κs. search needs)
+    (λ c. search needs)
     returns
-    enum-told
-    cast-i
-    find-page-requires
-    looked-answer-requires
-    same-length-2
-    same-length-3
-    same-length-4
-    same-length-5
+    (λ c. search needs)
+    (λ c. search needs)
+    (λ c κs. search needs)
+    (λ c κs. search needs)
+    (λ c. search needs)
+    (λ c. search needs)
+    (λ c. search needs)
+    (λ c. search needs)
     returns-2)

@@ -1,3 +1,4 @@
+-- `commit::looked_answer` meets its contract.
 use borrow.Author.Needs.{needs}
 use Rattle.commit.proofs.looked_answer.Statement.{statement}
 use Rattle.commit.proofs.looked_answer.Tie as tie

@@ -1,3 +1,4 @@
+-- `forecast::absent` meets its contract.
 use Rattle.forecast.proofs.Laws.{absent-empty, absent-held, absent-past}
 use borrow.Author.Needs.{needs}
 use Rattle.forecast.proofs.absent.Statement.{statement}

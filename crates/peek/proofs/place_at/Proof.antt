@@ -1,61 +1,38 @@
+-- `peek::place_at` meets its contract.
 use borrow.Author.Tests.{not-true, not-false}
 use Rattle.peek.proofs.Laws.{place-policy, place-inside, place-outside}
 use borrow.Author.Needs.{needs}
 use Rattle.peek.proofs.place_at.Statement.{statement}
 use Rattle.peek.proofs.place_at.Tie as tie
-use Rattle.peek.proofs.place_at.Reads as reads
-use Rattle.peek.proofs.place_at.Lts as lts
-use Rattle.node.proofs.Node.is_cached.Reads as is-cached-reads
-use Rattle.peek.proofs.place_by.Reads as place-by-reads
-use Rattle.seek.proofs.seek_page.Reads as seek-page-reads
-use Rattle.tables.proofs.node_at.Reads as node-at-reads
 
--- src/lib.rt:72:9
-node-at-requires : tie.Need-node-at-requires
-node-at-requires c κs = search needs
-
--- src/lib.rt:73:9
-is-cached-requires : tie.Need-is-cached-requires
-is-cached-requires c κs = search needs
-
--- src/lib.rt:74:9
 returns : tie.Need-returns
 returns c = λ U M H Y. place-policy _ _ U M H Y _ _ (c .before .before .node-at .ensures) (c .before .is-cached .ensures) (not-true _ (c .if1 .taken))
 
--- src/lib.rt:76:15
-cast-if2 : tie.Need-cast-if2
-cast-if2 c = search needs
-
--- src/lib.rt:77:58
-cast-seek-page : tie.Need-cast-seek-page
-cast-seek-page c = search needs
-
--- src/lib.rt:77:13
-seek-page-requires : tie.Need-seek-page-requires
-seek-page-requires c κs = search needs
-
--- src/lib.rt:78:9
-place-by-requires : tie.Need-place-by-requires
-place-by-requires c κs = search needs
-
--- src/lib.rt:78:9
 returns-2 : tie.Need-returns-2
-returns-2 c = λ U M H Y. place-inside _ _ U M H Y _ _ (c .before .before .before .before .before .before .node-at .ensures) (c .before .before .before .before .before .is-cached .ensures) (not-false _ (c .before .before .before .before .if1 .left)) (c .before .before .if2 .taken) (c .before .seek-page .ensures) (c .place-by .ensures)
+returns-2 c =
+    let at-if1 = c .before .before .before .before in
+    let at-is-cached = at-if1 .before in
+    let at-node-at = at-is-cached .before in
+    λ U M H Y. place-inside _ _ U M H Y _ _ (at-node-at .node-at .ensures) (at-is-cached .is-cached .ensures) (not-false _ (at-if1 .if1 .left))
+    (c .before .before .if2 .taken) (c .before .seek-page .ensures) (c .place-by .ensures)
 
--- src/lib.rt:69:1
 returns-3 : tie.Need-returns-3
-returns-3 c = λ U M H Y. place-outside _ _ U M H Y _ _ (c .before .before .before .before .node-at .ensures) (c .before .before .before .is-cached .ensures) (not-false _ (c .before .before .if1 .left)) (c .if2 .left)
+returns-3 c =
+    let at-is-cached = c .before .before .before in
+    let at-node-at = at-is-cached .before in
+    λ U M H Y. place-outside _ _ U M H Y _ _ (at-node-at .node-at .ensures) (at-is-cached .is-cached .ensures)
+    (not-false _ (c .before .before .if1 .left)) (c .if2 .left)
 
 pub place-at-spec : {M : Type 1} → statement M
 place-at-spec =
     tie.close
     (tie.spec
-    node-at-requires
-    is-cached-requires
+    (λ c κs. search needs)
+    (λ c κs. search needs)
     returns
-    cast-if2
-    cast-seek-page
-    seek-page-requires
-    place-by-requires
+    (λ c. search needs)
+    (λ c. search needs)
+    (λ c κs. search needs)
+    (λ c κs. search needs)
     returns-2
     returns-3)

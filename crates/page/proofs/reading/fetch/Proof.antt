@@ -1,3 +1,4 @@
+-- `page::reading::fetch` meets its contract.
 use Rattle.page.specs.Pages.{fetchedBy}
 use Rattle.page.proofs.Laws.{fetched-all, fetched-zero}
 use borrow.Author.Needs.{needs}
@@ -5,10 +6,16 @@ use Rattle.page.proofs.reading.fetch.Statement.{statement}
 use Rattle.page.proofs.reading.fetch.Tie as tie
 
 returns : tie.Need-returns
-returns c = fetched-all _ _ _ _ (c .before .before .before .before .before .before .looked .given .1) (c .before .before .before .len .ensures) (c .before .before .paste .ensures)
+returns c =
+    let at-len = c .before .before .before in
+    let at-looked = at-len .before .before .before in
+    fetched-all _ _ _ _ (at-looked .looked .given .1) (at-len .len .ensures) (c .before .before .paste .ensures)
 
 returns-2 : tie.Need-returns-2
-returns-2 c = fetched-zero _ _ _ _ (c .before .before .before .before .before .enum-told .given .1) (c .before .before .before .len2 .ensures) (c .before .before .blank .ensures)
+returns-2 c =
+    let at-len2 = c .before .before .before in
+    let at-enum-told = at-len2 .before .before in
+    fetched-zero _ _ _ _ (at-enum-told .enum-told .given .1) (at-len2 .len2 .ensures) (c .before .before .blank .ensures)
 
 returns-3 : tie.Need-returns-3
 unfolding fetchedBy

@@ -1,10 +1,13 @@
+-- `page::reading::find_read` meets its contract.
 use Rattle.page.proofs.Laws.{look-quiet}
 use borrow.Author.Needs.{needs}
 use Rattle.page.proofs.reading.find_read.Statement.{statement}
 use Rattle.page.proofs.reading.find_read.Tie as tie
 
 returns : tie.Need-returns
-returns c = look-quiet _ _ _ _ _ _ _ (c .before .before .before .before .before .before .before .find-page .ensures)
+returns c =
+    let at-find-page = c .before .before .before .before .before .before .before in
+    look-quiet _ _ _ _ _ _ _ (at-find-page .find-page .ensures)
 
 pub find-read-spec : {M : Type 1} → statement M
 find-read-spec =

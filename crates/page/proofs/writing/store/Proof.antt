@@ -1,4 +1,4 @@
-use mathlib.Core.Path.{refl}
+-- `page::writing::store` meets its contract.
 use Rattle.page.specs.Pages.{storedBy}
 use Rattle.page.proofs.Laws.{stored-all}
 use borrow.Author.Needs.{needs}
@@ -6,7 +6,10 @@ use Rattle.page.proofs.writing.store.Statement.{statement}
 use Rattle.page.proofs.writing.store.Tie as tie
 
 returns : tie.Need-returns
-returns c = λ P U t. stored-all _ _ _ _ P U t (c .before .before .before .before .before .before .looked .given .1) (c .before .before .before .len .ensures) (c .before .before .paste .ensures)
+returns c =
+    let at-len = c .before .before .before in
+    let at-looked = at-len .before .before .before in
+    λ P U t. stored-all _ _ _ _ P U t (at-looked .looked .given .1) (at-len .len .ensures) (c .before .before .paste .ensures)
 
 returns-2 : tie.Need-returns-2
 unfolding storedBy
