@@ -14,7 +14,7 @@ use Rattle.logic.proofs.Laws.{first-below, and-right}
 use Rattle.blocks.specs.Blocks.{alignedOf}
 use Rattle.node.specs.declared.Node.{Node}
 use Rattle.node.specs.Node.{lastOwner, cachedOf, containsOf, snapshotNode, hiddenNode, belowNode, relinkedNode}
-use Rattle.tables.specs.Pool.{poolOf}
+use Rattle.tables.specs.Pool.{Pool, poolOf}
 use Rattle.tables.specs.Tables.{nodeOf, withNode, rowMoved, isFree, freeNodeIn, freeNodeFrom}
 use Rattle.outcome.specs.Told.{removeWrite, toldOf}
 use Rattle.notices.specs.Notices.{tellObject}
@@ -28,7 +28,9 @@ use Rattle.outcome.specs.declared.answer.Answer.{Answer}
 use Rattle.outcome.specs.declared.reply.Reply.{Reply}
 use Rattle.outcome.specs.Outcome.{Outcome, outcomeOf, outcome, replyOf}
 use Rattle.child.specs.declared.birth.Birth.{Birth}
-use Rattle.child.specs.Child.{birthBy, relinked, bornNodes, born, againstChild, withBoth, withChild, numberChild, childAt}
+use Rattle.child.specs.Child.{birthBy, relinked, bornNodes, born, againstChild, withBoth, withChild, numberChild, childAt, createChild}
+use Rattle.outcome.proofs.Laws.{tested, pick-has}
+use Rattle.pool.proofs.Laws.{on-object}
 
 -- the tests
 
@@ -131,3 +133,25 @@ module _ (N P U M H Y list : List ℕ) (node offset len : ℕ) {n : Node} {a : A
   pub child-done : {s : Outcome Answer} → a ≡ Fine → s ≡ numberChild (poolOf N P U M H Y) list node (offset / 4096) (len / 4096) → s ≡ childAt 4096 (poolOf N P U M H Y) list node offset len
   unfolding childAt
   child-done h s = rw (← e, sym t ∙ h) s
+
+-- the call takes no frame
+module _ (L : ℕ) (p : Pool) (list : List ℕ) (object offset len : ℕ) where
+  abbrev Frameless : Outcome Answer → Type 0
+  Frameless o = o .taken ≡ 0
+
+  frameless-both : (n first pages child : ℕ) (f : Found) → Frameless (withBoth p list n first pages child f)
+  unfolding withBoth born
+  frameless-both n first pages child (At hidden) = pick-has Frameless (roomOf (p .mappings) list 1) refl refl
+  frameless-both n first pages child Nothing = refl
+
+  frameless-child : (n first pages : ℕ) (f : Found) → Frameless (withChild p list n first pages f)
+  unfolding withChild
+  frameless-child n first pages (At child) = frameless-both n first pages child (freeNodeFrom (p .nodes) (child + 1))
+  frameless-child n first pages Nothing = refl
+
+  pub create-frameless : createChild L p list object offset len .taken ≡ 0
+  unfolding childAt numberChild
+  create-frameless =
+      on-object Frameless L p object (λ r. refl)
+      (λ n. tested Frameless (againstChild L (nodeOf (p .nodes) n) offset len) (λ r. refl)
+      (pick-has Frameless (leb (getD (p .head) 0 0) lastOwner) (frameless-child n (offset / L) (len / L) (freeNodeIn (p .nodes))) refl))

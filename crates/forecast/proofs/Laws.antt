@@ -15,10 +15,13 @@ use Rattle.node.specs.declared.Node.{Node}
 use Rattle.node.specs.Node.{containsOf}
 use Rattle.blocks.specs.declared.BlockIter.{BlockIter}
 use Rattle.blocks.specs.Blocks.{iterOf, pagesOf, countOf}
+use Rattle.tables.specs.Pool.{Pool}
 use Rattle.tables.specs.Tables.{nodeOf, entryOf, slotAt}
 use Rattle.outcome.specs.declared.answer.Answer.the-variants.{Done, Refused}
 use Rattle.outcome.specs.declared.answer.Refusal.the-variants.{OutOfRange}
-use Rattle.forecast.specs.Forecast.{oneAbsent, absentAt, yesOf, forecastAnswer}
+use Rattle.forecast.specs.Forecast.{oneAbsent, absentAt, yesOf, forecastAnswer, forecast}
+use Rattle.outcome.proofs.Laws.{Quiet}
+use Rattle.pool.proofs.Laws.{on-object}
 
 module _ (pages : List ℕ) (n i : ℕ) {s : Slot} where
   pub absent-empty : s ≡ slotAt pages n i → s ≡ Empty → 1 ≡ absentAt pages n i
@@ -28,10 +31,6 @@ module _ (pages : List ℕ) (n i : ℕ) {s : Slot} where
   pub absent-held : {p : PageState} → s ≡ slotAt pages n i → s ≡ Held p → 0 ≡ absentAt pages n i
   unfolding absentAt
   absent-held e t = rw (sym e ∙ t)
-
-pub absent-past : (pages : List ℕ) (n i : ℕ) → 64 ≤ i → 1 ≡ absentAt pages n i
-unfolding absentAt slotAt entryOf slotOf
-absent-past pages n i h = rw (le-ltb _ _ h)
 
 -- a count of pages is small
 
@@ -58,3 +57,6 @@ module _ (nodes pages used : List ℕ) (n offset len : ℕ) {r : Node} {b : Bool
   pub in-range : {y : ℕ} → b ≡ true → y ≡ yesOf 4096 pages used n (iterOf offset (offset + len)) → Done y ≡ forecastAnswer 4096 nodes pages used n offset len
   unfolding forecastAnswer
   in-range h a = rw (← e, sym c ∙ h, a)
+
+pub forecast-quiet : (L : ℕ) (p : Pool) (object offset len : ℕ) → Quiet (forecast L p object offset len)
+forecast-quiet L p object offset len = on-object Quiet L p object (λ r. (refl, refl)) (λ n. (refl, refl))

@@ -1,11 +1,11 @@
 // Bytes and pages of an object: read, write, commit and peek.
-use peek::Place;
 ghost use mathlib.Core.Path.{_≡_};
+ghost use mathlib.Core.List.{[]};
 ghost use Rattle.tables.specs.Pool.{poolOf};
 ghost use Rattle.outcome.specs.Told.{toldOf};
+ghost use Rattle.outcome.specs.Outcome.{outcomeOf, numbersOf, inNumbers};
 ghost use Rattle.ranges.specs.Ranges.{read, write, commit};
-ghost use Rattle.peek.specs.Peek.{place};
-ghost use Rattle.exports.specs.Exports.{rangeBy, givenRange, filledBy, givenFilled, placeCode, placeValue};
+ghost use Rattle.peek.specs.Peek.{place, placeNumbers};
 
 #[no_mangle]
 pub extern "C" fn goramul_read(
@@ -21,10 +21,10 @@ pub extern "C" fn goramul_read(
     value: &mut u64,
 ) -> u32
     ensures { λ r. ⌜
-        filledBy r (now (value .exit)) (poolOf (now (nodes .entry)) (now (pages .exit)) (now (used .exit)) (now (mappings .entry)) (now (head .entry)) (now (memory .exit))) (now (buf .exit))
-        ≡ givenFilled (read 4096 (poolOf (now (nodes .entry)) (now (pages .entry)) (now (used .entry)) (now (mappings .entry)) (now (head .entry)) (now (memory .entry))) object from (now (buf .entry))) ⌝ }
+        outcomeOf (numbersOf r (now (value .exit))) (poolOf (now (nodes .entry)) (now (pages .exit)) (now (used .exit)) (now (mappings .entry)) (now (head .entry)) (now (memory .exit))) (toldOf [] 0) 0 0 (now (buf .exit))
+        ≡ inNumbers (read 4096 (poolOf (now (nodes .entry)) (now (pages .entry)) (now (used .entry)) (now (mappings .entry)) (now (head .entry)) (now (memory .entry))) object from (now (buf .entry))) ⌝ }
 {
-    let filled = ranges::read(
+    let reply = ranges::read(
         nodes,
         pages,
         used,
@@ -35,8 +35,8 @@ pub extern "C" fn goramul_read(
         from,
         buf,
     );
-    *value = filled.value();
-    filled.code()
+    *value = reply.value();
+    reply.code()
 }
 
 #[no_mangle]
@@ -56,10 +56,10 @@ pub extern "C" fn goramul_write(
     value: &mut u64,
 ) -> u32
     ensures { λ r. ⌜
-        rangeBy r (now (value .exit)) (now (taken .exit)) (poolOf (now (nodes .entry)) (now (pages .exit)) (now (used .exit)) (now (mappings .entry)) (now (head .entry)) (now (memory .exit))) (toldOf (now (notices .exit)) (now (count .exit)))
-        ≡ givenRange (write 4096 (poolOf (now (nodes .entry)) (now (pages .entry)) (now (used .entry)) (now (mappings .entry)) (now (head .entry)) (now (memory .entry))) (now (notices .entry)) object offset (now (bytes .entry))) ⌝ }
+        outcomeOf (numbersOf r (now (value .exit))) (poolOf (now (nodes .entry)) (now (pages .exit)) (now (used .exit)) (now (mappings .entry)) (now (head .entry)) (now (memory .exit))) (toldOf (now (notices .exit)) (now (count .exit))) 0 (now (taken .exit)) []
+        ≡ inNumbers (write 4096 (poolOf (now (nodes .entry)) (now (pages .entry)) (now (used .entry)) (now (mappings .entry)) (now (head .entry)) (now (memory .entry))) (now (notices .entry)) object offset (now (bytes .entry))) ⌝ }
 {
-    let wrote = ranges::write(
+    let reply = ranges::write(
         nodes,
         pages,
         used,
@@ -71,11 +71,10 @@ pub extern "C" fn goramul_write(
         offset,
         bytes,
     );
-    let answer = wrote.answer;
-    *taken = wrote.taken as u64;
-    *count = wrote.count as u64;
-    *value = wrote.done;
-    answer.code()
+    *taken = reply.taken as u64;
+    *count = reply.count as u64;
+    *value = reply.value();
+    reply.code()
 }
 
 #[no_mangle]
@@ -95,10 +94,10 @@ pub extern "C" fn goramul_commit(
     value: &mut u64,
 ) -> u32
     ensures { λ r. ⌜
-        rangeBy r (now (value .exit)) (now (taken .exit)) (poolOf (now (nodes .entry)) (now (pages .exit)) (now (used .exit)) (now (mappings .entry)) (now (head .entry)) (now (memory .exit))) (toldOf (now (notices .exit)) (now (count .exit)))
-        ≡ givenRange (commit 4096 (poolOf (now (nodes .entry)) (now (pages .entry)) (now (used .entry)) (now (mappings .entry)) (now (head .entry)) (now (memory .entry))) (now (notices .entry)) object offset len) ⌝ }
+        outcomeOf (numbersOf r (now (value .exit))) (poolOf (now (nodes .entry)) (now (pages .exit)) (now (used .exit)) (now (mappings .entry)) (now (head .entry)) (now (memory .exit))) (toldOf (now (notices .exit)) (now (count .exit))) 0 (now (taken .exit)) []
+        ≡ inNumbers (commit 4096 (poolOf (now (nodes .entry)) (now (pages .entry)) (now (used .entry)) (now (mappings .entry)) (now (head .entry)) (now (memory .entry))) (now (notices .entry)) object offset len) ⌝ }
 {
-    let committed = ranges::commit(
+    let reply = ranges::commit(
         nodes,
         pages,
         used,
@@ -110,31 +109,10 @@ pub extern "C" fn goramul_commit(
         offset,
         len,
     );
-    let answer = committed.answer;
-    *taken = committed.taken as u64;
-    *count = committed.count as u64;
-    *value = committed.done;
-    answer.code()
-}
-
-fn place_code(place: Place) -> u32
-    ensures { λ r. ⌜ r ≡ placeCode place ⌝ }
-{
-    match place {
-        Place::Frame(_) => 1,
-        Place::ZeroPage => 2,
-        Place::Nowhere => 0,
-    }
-}
-
-fn place_value(place: Place) -> u64
-    ensures { λ r. ⌜ r ≡ placeValue place ⌝ }
-{
-    match place {
-        Place::Frame(f) => f as u64,
-        Place::ZeroPage => 0,
-        Place::Nowhere => 0,
-    }
+    *taken = reply.taken as u64;
+    *count = reply.count as u64;
+    *value = reply.value();
+    reply.code()
 }
 
 // An export returns no part of a slice, so it says where the part is.
@@ -152,8 +130,8 @@ pub extern "C" fn goramul_peek(
     value: &mut u64,
 ) -> u32
     ensures { λ r. ⌜
-        (r ≡ placeCode (place 4096 (poolOf (now (nodes .entry)) (now (pages .entry)) (now (used .entry)) (now (mappings .entry)) (now (head .entry)) (now (memory .entry))) (now (zero .entry)) object page))
-        × (now (value .exit) ≡ placeValue (place 4096 (poolOf (now (nodes .entry)) (now (pages .entry)) (now (used .entry)) (now (mappings .entry)) (now (head .entry)) (now (memory .entry))) (now (zero .entry)) object page)) ⌝ }
+        numbersOf r (now (value .exit))
+        ≡ placeNumbers (place 4096 (poolOf (now (nodes .entry)) (now (pages .entry)) (now (used .entry)) (now (mappings .entry)) (now (head .entry)) (now (memory .entry))) (now (zero .entry)) object page) ⌝ }
 {
     let place = peek::find(
         nodes,
@@ -166,6 +144,6 @@ pub extern "C" fn goramul_peek(
         object,
         page,
     );
-    *value = place_value(place);
-    place_code(place)
+    *value = place.value();
+    place.code()
 }

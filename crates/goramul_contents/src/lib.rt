@@ -6,11 +6,12 @@ pub use bytes::goramul_peek;
 pub use bytes::goramul_read;
 pub use bytes::goramul_write;
 ghost use mathlib.Core.Path.{_≡_};
+ghost use mathlib.Core.List.{[]};
 ghost use Rattle.tables.specs.Pool.{poolOf};
 ghost use Rattle.forecast.specs.Forecast.{forecast};
 ghost use Rattle.outcome.specs.Told.{toldOf};
+ghost use Rattle.outcome.specs.Outcome.{outcomeOf, numbersOf, inNumbers};
 ghost use Rattle.commit.specs.Commit.{commitPage};
-ghost use Rattle.exports.specs.Exports.{givenOf, given, notedBy, givenNoted};
 
 #[no_mangle]
 pub extern "C" fn goramul_commit_page(
@@ -28,10 +29,10 @@ pub extern "C" fn goramul_commit_page(
     value: &mut u64,
 ) -> u32
     ensures { λ r. ⌜
-        notedBy r (now (value .exit)) (poolOf (now (nodes .entry)) (now (pages .exit)) (now (used .exit)) (now (mappings .entry)) (now (head .entry)) (now (memory .exit))) (toldOf (now (notices .exit)) (now (count .exit)))
-        ≡ givenNoted (commitPage 4096 (poolOf (now (nodes .entry)) (now (pages .entry)) (now (used .entry)) (now (mappings .entry)) (now (head .entry)) (now (memory .entry))) (now (notices .entry)) object page write) ⌝ }
+        outcomeOf (numbersOf r (now (value .exit))) (poolOf (now (nodes .entry)) (now (pages .exit)) (now (used .exit)) (now (mappings .entry)) (now (head .entry)) (now (memory .exit))) (toldOf (now (notices .exit)) (now (count .exit))) 0 0 []
+        ≡ inNumbers (commitPage 4096 (poolOf (now (nodes .entry)) (now (pages .entry)) (now (used .entry)) (now (mappings .entry)) (now (head .entry)) (now (memory .entry))) (now (notices .entry)) object page write) ⌝ }
 {
-    let noted = commit::commit_page(
+    let reply = commit::commit_page(
         nodes,
         pages,
         used,
@@ -43,10 +44,9 @@ pub extern "C" fn goramul_commit_page(
         page,
         write,
     );
-    let answer = noted.answer;
-    *count = noted.count as u64;
-    *value = answer.value();
-    answer.code()
+    *count = reply.count as u64;
+    *value = reply.value();
+    reply.code()
 }
 
 #[no_mangle]
@@ -63,10 +63,10 @@ pub extern "C" fn goramul_forecast(
     value: &mut u64,
 ) -> u32
     ensures { λ r. ⌜
-        givenOf r (now (value .exit)) (poolOf (now (nodes .entry)) (now (pages .entry)) (now (used .entry)) (now (mappings .entry)) (now (head .entry)) (now (memory .entry)))
-        ≡ given (forecast 4096 (poolOf (now (nodes .entry)) (now (pages .entry)) (now (used .entry)) (now (mappings .entry)) (now (head .entry)) (now (memory .entry))) object offset len) ⌝ }
+        outcomeOf (numbersOf r (now (value .exit))) (poolOf (now (nodes .entry)) (now (pages .entry)) (now (used .entry)) (now (mappings .entry)) (now (head .entry)) (now (memory .entry))) (toldOf [] 0) 0 0 []
+        ≡ inNumbers (forecast 4096 (poolOf (now (nodes .entry)) (now (pages .entry)) (now (used .entry)) (now (mappings .entry)) (now (head .entry)) (now (memory .entry))) object offset len) ⌝ }
 {
-    let answer = forecast::forecast(
+    let reply = forecast::forecast(
         nodes,
         pages,
         used,
@@ -77,6 +77,6 @@ pub extern "C" fn goramul_forecast(
         offset,
         len,
     );
-    *value = answer.value();
-    answer.code()
+    *value = reply.value();
+    reply.code()
 }

@@ -1,9 +1,10 @@
 // The export of create_child.
 ghost use mathlib.Core.Path.{_≡_};
+ghost use mathlib.Core.List.{[]};
 ghost use Rattle.tables.specs.Pool.{poolOf};
 ghost use Rattle.outcome.specs.Told.{toldOf};
 ghost use Rattle.child.specs.Child.{createChild};
-ghost use Rattle.exports.specs.Exports.{notedBy, givenNoted};
+ghost use Rattle.outcome.specs.Outcome.{outcomeOf, numbersOf, inNumbers};
 
 #[no_mangle]
 pub extern "C" fn goramul_create_child(
@@ -21,10 +22,10 @@ pub extern "C" fn goramul_create_child(
     value: &mut u64,
 ) -> u32
     ensures { λ r. ⌜
-        notedBy r (now (value .exit)) (poolOf (now (nodes .exit)) (now (pages .exit)) (now (used .entry)) (now (mappings .entry)) (now (head .exit)) (now (memory .entry))) (toldOf (now (notices .exit)) (now (count .exit)))
-        ≡ givenNoted (createChild 4096 (poolOf (now (nodes .entry)) (now (pages .entry)) (now (used .entry)) (now (mappings .entry)) (now (head .entry)) (now (memory .entry))) (now (notices .entry)) object offset len) ⌝ }
+        outcomeOf (numbersOf r (now (value .exit))) (poolOf (now (nodes .exit)) (now (pages .exit)) (now (used .entry)) (now (mappings .entry)) (now (head .exit)) (now (memory .entry))) (toldOf (now (notices .exit)) (now (count .exit))) 0 0 []
+        ≡ inNumbers (createChild 4096 (poolOf (now (nodes .entry)) (now (pages .entry)) (now (used .entry)) (now (mappings .entry)) (now (head .entry)) (now (memory .entry))) (now (notices .entry)) object offset len) ⌝ }
 {
-    let noted = child::create_child(
+    let reply = child::create_child(
         nodes,
         pages,
         used,
@@ -36,8 +37,7 @@ pub extern "C" fn goramul_create_child(
         offset,
         len,
     );
-    let answer = noted.answer;
-    *count = noted.count as u64;
-    *value = answer.value();
-    answer.code()
+    *count = reply.count as u64;
+    *value = reply.value();
+    reply.code()
 }

@@ -3,11 +3,13 @@ mod children;
 
 pub use children::goramul_create_child;
 ghost use mathlib.Core.Path.{_≡_};
+ghost use mathlib.Core.List.{[]};
+ghost use Rattle.outcome.specs.Told.{toldOf};
+ghost use Rattle.outcome.specs.Outcome.{outcomeOf, numbersOf, inNumbers};
 ghost use Rattle.tables.specs.Pool.{poolOf};
 ghost use Rattle.sound.specs.Sound.{sound};
 ghost use Rattle.pool.specs.Calls.{start, new, len};
 ghost use Rattle.mapped.specs.Mapped.{appendMapping, removeMapping};
-ghost use Rattle.exports.specs.Exports.{givenOf, given};
 
 #[no_mangle]
 pub extern "C" fn goramul_start(
@@ -20,12 +22,12 @@ pub extern "C" fn goramul_start(
     value: &mut u64,
 ) -> u32
     ensures { λ r. ⌜
-        givenOf r (now (value .exit)) (poolOf (now (nodes .exit)) (now (pages .exit)) (now (used .exit)) (now (mappings .exit)) (now (head .exit)) (now (memory .entry)))
-        ≡ given (start 4096 (poolOf (now (nodes .entry)) (now (pages .entry)) (now (used .entry)) (now (mappings .entry)) (now (head .entry)) (now (memory .entry)))) ⌝ }
+        outcomeOf (numbersOf r (now (value .exit))) (poolOf (now (nodes .exit)) (now (pages .exit)) (now (used .exit)) (now (mappings .exit)) (now (head .exit)) (now (memory .entry))) (toldOf [] 0) 0 0 []
+        ≡ inNumbers (start 4096 (poolOf (now (nodes .entry)) (now (pages .entry)) (now (used .entry)) (now (mappings .entry)) (now (head .entry)) (now (memory .entry)))) ⌝ }
 {
-    let answer = pool::start(nodes, pages, used, mappings, head, memory);
-    *value = answer.value();
-    answer.code()
+    let reply = pool::start(nodes, pages, used, mappings, head, memory);
+    *value = reply.value();
+    reply.code()
 }
 
 #[no_mangle]
@@ -40,12 +42,12 @@ pub extern "C" fn goramul_new(
     value: &mut u64,
 ) -> u32
     ensures { λ r. ⌜
-        givenOf r (now (value .exit)) (poolOf (now (nodes .exit)) (now (pages .entry)) (now (used .entry)) (now (mappings .entry)) (now (head .exit)) (now (memory .entry)))
-        ≡ given (new 4096 (poolOf (now (nodes .entry)) (now (pages .entry)) (now (used .entry)) (now (mappings .entry)) (now (head .entry)) (now (memory .entry))) size) ⌝ }
+        outcomeOf (numbersOf r (now (value .exit))) (poolOf (now (nodes .exit)) (now (pages .entry)) (now (used .entry)) (now (mappings .entry)) (now (head .exit)) (now (memory .entry))) (toldOf [] 0) 0 0 []
+        ≡ inNumbers (new 4096 (poolOf (now (nodes .entry)) (now (pages .entry)) (now (used .entry)) (now (mappings .entry)) (now (head .entry)) (now (memory .entry))) size) ⌝ }
 {
-    let answer = pool::new(nodes, pages, used, mappings, head, memory, size);
-    *value = answer.value();
-    answer.code()
+    let reply = pool::new(nodes, pages, used, mappings, head, memory, size);
+    *value = reply.value();
+    reply.code()
 }
 
 #[no_mangle]
@@ -60,12 +62,12 @@ pub extern "C" fn goramul_len(
     value: &mut u64,
 ) -> u32
     ensures { λ r. ⌜
-        givenOf r (now (value .exit)) (poolOf (now (nodes .entry)) (now (pages .entry)) (now (used .entry)) (now (mappings .entry)) (now (head .entry)) (now (memory .entry)))
-        ≡ given (len 4096 (poolOf (now (nodes .entry)) (now (pages .entry)) (now (used .entry)) (now (mappings .entry)) (now (head .entry)) (now (memory .entry))) object) ⌝ }
+        outcomeOf (numbersOf r (now (value .exit))) (poolOf (now (nodes .entry)) (now (pages .entry)) (now (used .entry)) (now (mappings .entry)) (now (head .entry)) (now (memory .entry))) (toldOf [] 0) 0 0 []
+        ≡ inNumbers (len 4096 (poolOf (now (nodes .entry)) (now (pages .entry)) (now (used .entry)) (now (mappings .entry)) (now (head .entry)) (now (memory .entry))) object) ⌝ }
 {
-    let answer = pool::len(nodes, pages, used, mappings, head, memory, object);
-    *value = answer.value();
-    answer.code()
+    let reply = pool::len(nodes, pages, used, mappings, head, memory, object);
+    *value = reply.value();
+    reply.code()
 }
 
 #[no_mangle]
@@ -82,10 +84,10 @@ pub extern "C" fn goramul_append_mapping(
     value: &mut u64,
 ) -> u32
     ensures { λ r. ⌜
-        givenOf r (now (value .exit)) (poolOf (now (nodes .entry)) (now (pages .entry)) (now (used .entry)) (now (mappings .exit)) (now (head .entry)) (now (memory .entry)))
-        ≡ given (appendMapping 4096 (poolOf (now (nodes .entry)) (now (pages .entry)) (now (used .entry)) (now (mappings .entry)) (now (head .entry)) (now (memory .entry))) object first count) ⌝ }
+        outcomeOf (numbersOf r (now (value .exit))) (poolOf (now (nodes .entry)) (now (pages .entry)) (now (used .entry)) (now (mappings .exit)) (now (head .entry)) (now (memory .entry))) (toldOf [] 0) 0 0 []
+        ≡ inNumbers (appendMapping 4096 (poolOf (now (nodes .entry)) (now (pages .entry)) (now (used .entry)) (now (mappings .entry)) (now (head .entry)) (now (memory .entry))) object first count) ⌝ }
 {
-    let answer = mapped::append_mapping(
+    let reply = mapped::append_mapping(
         nodes,
         pages,
         used,
@@ -96,8 +98,8 @@ pub extern "C" fn goramul_append_mapping(
         first,
         count,
     );
-    *value = answer.value();
-    answer.code()
+    *value = reply.value();
+    reply.code()
 }
 
 #[no_mangle]
@@ -113,10 +115,10 @@ pub extern "C" fn goramul_remove_mapping(
     value: &mut u64,
 ) -> u32
     ensures { λ r. ⌜
-        givenOf r (now (value .exit)) (poolOf (now (nodes .entry)) (now (pages .entry)) (now (used .entry)) (now (mappings .exit)) (now (head .entry)) (now (memory .entry)))
-        ≡ given (removeMapping 4096 (poolOf (now (nodes .entry)) (now (pages .entry)) (now (used .entry)) (now (mappings .entry)) (now (head .entry)) (now (memory .entry))) object mapping) ⌝ }
+        outcomeOf (numbersOf r (now (value .exit))) (poolOf (now (nodes .entry)) (now (pages .entry)) (now (used .entry)) (now (mappings .exit)) (now (head .entry)) (now (memory .entry))) (toldOf [] 0) 0 0 []
+        ≡ inNumbers (removeMapping 4096 (poolOf (now (nodes .entry)) (now (pages .entry)) (now (used .entry)) (now (mappings .entry)) (now (head .entry)) (now (memory .entry))) object mapping) ⌝ }
 {
-    let answer = mapped::remove_mapping(
+    let reply = mapped::remove_mapping(
         nodes,
         pages,
         used,
@@ -126,8 +128,8 @@ pub extern "C" fn goramul_remove_mapping(
         object,
         mapping,
     );
-    *value = answer.value();
-    answer.code()
+    *value = reply.value();
+    reply.code()
 }
 
 // The test that heads every call, by itself.

@@ -1,20 +1,22 @@
 -- The ways through the calls on mappings. Assumes nothing.
-use mathlib.Core.Path.{_≡_, sym, _∙_}
+use mathlib.Core.Path.{_≡_, refl, sym, _∙_}
 use mathlib.Core.Bool.{Bool, true, false, _&&_, and-false}
 use mathlib.Core.List.{List, []}
 use Prim.Native.Nat.{ℕ, _+_, _≤_, _<_}
 use native.Mathlib.Omega.{arith}
-use lib.Dec.{leb}
+use lib.Dec.{leb, ltb}
 use borrow.Author.Tests.{lt-leb, lt-ltb, le-ltb}
 use Rattle.logic.specs.declared.Found.{Found}
 use Rattle.logic.specs.declared.Found.the-variants.{At, Nothing}
-use Rattle.tables.specs.Pool.{poolOf}
+use Rattle.tables.specs.Pool.{Pool, poolOf}
 use Rattle.mappings.specs.Mappings.{listedOf, append, removed}
 use Rattle.outcome.specs.declared.answer.Answer.the-variants.{Done, Refused}
 use Rattle.outcome.specs.declared.answer.Refusal.the-variants.{InvalidArgs, NoRoom}
 use Rattle.outcome.specs.declared.reply.Reply.{Reply}
 use Rattle.outcome.specs.Outcome.{outcome, replyOf}
-use Rattle.mapped.specs.Mapped.{showsOf, appendAt, removeAt}
+use Rattle.mapped.specs.Mapped.{showsOf, appendAt, appendMapping, removeAt, removeMapping}
+use Rattle.outcome.proofs.Laws.{Quiet, pick-has}
+use Rattle.pool.proofs.Laws.{on-object}
 
 pub never : {A : Type 0} → false ≡ true → A
 never h = let z : _≡_ {A = ℕ} 0 1 = cc in absurd (omega arith)
@@ -44,3 +46,12 @@ module _ (N P U M H Y : List ℕ) (n mapping : ℕ) {r : Reply} where
   pub remove-none : 64 ≤ mapping → r ≡ replyOf (Done 0) → outcome r (poolOf N P U M H Y) [] [] ≡ removeAt (poolOf N P U M H Y) n mapping
   unfolding removeAt
   remove-none h r = rw (r, le-ltb _ _ h)
+
+-- neither call sends a notice or takes a frame
+pub append-quiet : (L : ℕ) (p : Pool) (object first count : ℕ) → Quiet (appendMapping L p object first count)
+unfolding appendAt
+append-quiet L p object first count = on-object Quiet L p object (λ r. (refl, refl)) (λ n. pick-has Quiet (showsOf first count) (refl, refl) (refl, refl))
+
+pub remove-quiet : (L : ℕ) (p : Pool) (object mapping : ℕ) → Quiet (removeMapping L p object mapping)
+unfolding removeAt
+remove-quiet L p object mapping = on-object Quiet L p object (λ r. (refl, refl)) (λ n. pick-has Quiet (ltb mapping 64) (refl, refl) (refl, refl))

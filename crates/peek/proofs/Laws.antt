@@ -8,18 +8,16 @@ use lib.Dec.{eqb, leb}
 use lib.ListN.{length, getD, take, drop}
 use borrow.Author.Tests.{le-leb, lt-leb, eq-eqb, ne-eqb}
 use Rattle.logic.specs.Below.{allBelow}
-use Rattle.logic.specs.declared.Found.{Found}
-use Rattle.logic.specs.declared.Found.the-variants.{At, Nothing}
 use Rattle.node.specs.declared.Node.{Node}
+use Rattle.node.specs.Node.{cachedOf, containsOf}
 use Rattle.tables.specs.Pool.{Pool, poolOf}
 use Rattle.tables.specs.Tables.{nodeOf}
-use Rattle.sound.specs.Sound.{sound}
 use Rattle.seek.specs.declared.Sought.{Sought}
 use Rattle.seek.specs.Seek.{seekPage}
-use Rattle.pool.specs.Calls.{findObject, onNode}
-use Rattle.ranges.specs.Ranges.{cachedOf, insideOf, againstReading}
-use Rattle.peek.specs.declared.Place.{Place}
-use Rattle.peek.specs.declared.Place.the-variants.{Frame, ZeroPage, Nowhere}
+use Rattle.pool.specs.Calls.{onObject}
+use Rattle.ranges.specs.Ranges.{againstReading}
+use Rattle.peek.specs.declared.Shown.{Shown}
+use Rattle.peek.specs.declared.Shown.the-variants.{Frame, ZeroPage, Nowhere}
 use Rattle.peek.specs.Peek.{blankByte, zeroPageOf, placeBy, placeAt, place, frameBytes, peek}
 
 -- the zero page
@@ -36,32 +34,34 @@ module _ (zero : List ℕ) where
 module _ (memory : List ℕ) (f : ℕ) where
   pub bytes-in : f * 4096 + 4096 ≤ length memory → take (f * 4096 + 4096 - f * 4096) (drop (f * 4096) memory) ≡ frameBytes 4096 memory f
   unfolding frameBytes
-  bytes-in h = rw (le-leb _ _ h)
+  bytes-in h =
+      let e : f * 4096 + 4096 - f * 4096 ≡ 4096 = omega arith in
+      rw (le-leb _ _ h, e)
 
   pub bytes-out : {s : List ℕ} → length memory < f * 4096 + 4096 → s ≡ [] → s ≡ frameBytes 4096 memory f
   unfolding frameBytes
   bytes-out h e = rw (lt-leb _ _ h) e
 
 -- a page of an object
-module _ (N P U M H Y : List ℕ) (node page : ℕ) {n : Node} (e : n ≡ nodeOf N node) where
-  pub place-policy : (n .«cache_policy» ≡ 0 → ⊥) → Nowhere ≡ placeAt 4096 (poolOf N P U M H Y) node page
-  unfolding placeAt againstReading cachedOf
-  place-policy h = rw (← e, ne-eqb _ _ h)
+module _ (N P U M H Y : List ℕ) (node page : ℕ) {n : Node} {c : Bool} (e : n ≡ nodeOf N node) (g : c ≡ cachedOf n) where
+  pub place-policy : c ≡ false → Nowhere ≡ placeAt 4096 (poolOf N P U M H Y) node page
+  unfolding placeAt againstReading
+  place-policy h = rw (← e, sym g ∙ h)
 
-  pub place-inside : {s : Sought} {r : Place} → n .«cache_policy» ≡ 0 → page < n .size → s ≡ seekPage N P node page false → r ≡ placeBy s → r ≡ placeAt 4096 (poolOf N P U M H Y) node page
-  unfolding placeAt againstReading cachedOf insideOf
-  place-inside h l s r = rw (← e, eq-eqb _ _ h, le-leb (page * 4096 + 4096) (n .size * 4096) (omega (arith, l)), ← s) r
+  pub place-inside : {s : Sought} {r : Place} → c ≡ true → page < n .size → s ≡ seekPage N P node page false → r ≡ placeBy s → r ≡ placeAt 4096 (poolOf N P U M H Y) node page
+  unfolding placeAt againstReading containsOf
+  place-inside h l s r = rw (← e, sym g ∙ h, le-leb (page * 4096 + 4096) (n .size * 4096) (omega (arith, l)), ← s) r
 
-  pub place-outside : n .«cache_policy» ≡ 0 → n .size ≤ page → Nowhere ≡ placeAt 4096 (poolOf N P U M H Y) node page
-  unfolding placeAt againstReading cachedOf insideOf
-  place-outside h l = rw (← e, eq-eqb _ _ h, lt-leb (page * 4096 + 4096) (n .size * 4096) (omega (arith, l)))
+  pub place-outside : c ≡ true → n .size ≤ page → Nowhere ≡ placeAt 4096 (poolOf N P U M H Y) node page
+  unfolding placeAt againstReading containsOf
+  place-outside h l = rw (← e, sym g ∙ h, lt-leb (page * 4096 + 4096) (n .size * 4096) (omega (arith, l)))
 
 module _ (p : Pool) (zero : List ℕ) (object page : ℕ) {b : Bool} (e : b ≡ zeroPageOf 4096 zero) where
   pub find-bad : b ≡ false → Nowhere ≡ place 4096 p zero object page
   unfolding place
   find-bad h = rw (sym e ∙ h)
 
-  pub find-good : {r : Place} → b ≡ true → r ≡ onNode 4096 p object (λ r. Nowhere) (λ n. placeAt 4096 p n page) → r ≡ place 4096 p zero object page
+  pub find-good : {r : Place} → b ≡ true → r ≡ onObject 4096 p object (λ r. Nowhere) (λ n. placeAt 4096 p n page) → r ≡ place 4096 p zero object page
   unfolding place
   find-good h r = rw (sym e ∙ h) r
 

@@ -1,17 +1,42 @@
 // The call peek: one page's bytes as a read would give them, without a copy and with nothing moved.
-use logic::Found;
-use seek::Sought;
+use lookup::End;
+use lookup::Place;
+use pool::Entered;
 ghost use mathlib.Core.Path.{_≡_};
 ghost use mathlib.Core.List.{List};
 ghost use Prim.Native.Nat.{ℕ};
 ghost use Rattle.tables.specs.Pool.{poolOf};
-ghost use Rattle.peek.specs.Peek.{zeroPageOf, placeBy, placeAt, place, frameBytes, peek};
+ghost use Rattle.peek.specs.Peek.{zeroPageOf, shownBy, placeAt, place, frameBytes, peek, placeNumbers};
 
 // Where a page's bytes are.
-pub enum Place {
+pub enum Shown {
     Frame(u32),
     ZeroPage,
     Nowhere,
+}
+
+impl Shown {
+    // For the export: 0 nowhere, 1 in a frame, 2 in the zero page.
+    pub fn code(self) -> u32
+        ensures { λ r. ⌜ r ≡ placeNumbers self .code ⌝ }
+    {
+        match self {
+            Shown::Frame(_) => 1,
+            Shown::ZeroPage => 2,
+            Shown::Nowhere => 0,
+        }
+    }
+
+    // The frame's number, else 0.
+    pub fn value(self) -> u64
+        ensures { λ r. ⌜ r ≡ placeNumbers self .value ⌝ }
+    {
+        match self {
+            Shown::Frame(f) => f as u64,
+            Shown::ZeroPage => 0,
+            Shown::Nowhere => 0,
+        }
+    }
 }
 
 fn is_zero_page(zero: &[u8]) -> bool
@@ -29,31 +54,38 @@ fn is_zero_page(zero: &[u8]) -> bool
     blank
 }
 
-fn place_by(sought: Sought) -> Place
-    ensures { λ r. ⌜ r ≡ placeBy sought ⌝ }
+fn shown_by(end: End) -> Shown
+    ensures { λ r. ⌜ r ≡ shownBy end ⌝ }
 {
-    match sought {
-        Sought::Shared(f) => return Place::Frame(f),
-        Sought::Moves(f) => return Place::Frame(f),
-        Sought::Zero => return Place::ZeroPage,
-        Sought::Absent => return Place::Nowhere,
-        Sought::Stops => return Place::Nowhere,
+    match end {
+        End::Has(s) => return Shown::Frame(s.frame),
+        End::Bare => return Shown::ZeroPage,
+        End::Tired => return Shown::Nowhere,
     }
 }
 
 // A page that a read may have: the policy is Cached, and the page lies inside.
-fn place_at(nodes: &[u32], pages: &[u32], node: u32, page: u64) -> Place
+fn place_at(nodes: &[u32], pages: &[u32], node: u32, page: u64) -> Shown
     ensures { λ r. ⌜ ((U M H Y : List ℕ) → r ≡ placeAt 4096 (poolOf (now (nodes .entry)) (now (pages .entry)) U M H Y) node page) ⌝ }
 {
     let n = tables::node_at(nodes, node);
-    if n.cache_policy != 0 {
-        return Place::Nowhere;
+    if !n.is_cached() {
+        return Shown::Nowhere;
     }
     if page < n.size as u64 {
-        let sought = seek::seek_page(nodes, pages, node, page as u32, false);
-        return place_by(sought);
+        let walked = lookup::walk(
+            nodes,
+            pages,
+            Place {
+                node,
+                page,
+                asker: node,
+            },
+        );
+        let end = walked.end;
+        return shown_by(end);
     }
-    Place::Nowhere
+    Shown::Nowhere
 }
 
 // Where an object's page is to be read.
@@ -67,20 +99,17 @@ pub fn find(
     zero: &[u8],
     object: u64,
     page: u64,
-) -> Place
+) -> Shown
     ensures { λ r. ⌜ r ≡ place 4096 (poolOf (now (nodes .entry)) (now (pages .entry)) (now (used .entry)) (now (mappings .entry)) (now (head .entry)) (now (memory .entry))) (now (zero .entry)) object page ⌝ }
 {
     if !is_zero_page(zero) {
-        return Place::Nowhere;
+        return Shown::Nowhere;
     }
-    if sound::is_sound(nodes, pages, used, mappings, head, memory) {
-        let found = pool::find_object(nodes, object);
-        match found {
-            Found::At(node) => return place_at(nodes, pages, node, page),
-            Found::Nothing => return Place::Nowhere,
-        }
+    let entered = pool::enter(nodes, pages, used, mappings, head, memory, object);
+    match entered {
+        Entered::At(node) => return place_at(nodes, pages, node, page),
+        Entered::Refused(_) => return Shown::Nowhere,
     }
-    Place::Nowhere
 }
 
 fn frame_bytes(memory: &[u8], frame: u32) -> &[u8]
@@ -120,8 +149,8 @@ pub fn peek<'a>(
         page,
     );
     match place {
-        Place::Frame(f) => return frame_bytes(memory, f),
-        Place::ZeroPage => return zero,
-        Place::Nowhere => return &zero[0..0],
+        Shown::Frame(f) => return frame_bytes(memory, f),
+        Shown::ZeroPage => return zero,
+        Shown::Nowhere => return &zero[0..0],
     }
 }

@@ -4,11 +4,12 @@ use mathlib.Core.Bool.{Bool, true, false, _&&_}
 use mathlib.Core.List.{List, [], _∷_, _++_}
 use Prim.Native.Nat.{ℕ, _+_, _*_, _≤_, _<_}
 use native.Mathlib.Omega.{arith}
-use lib.Dec.{ltb}
+use lib.Dec.{ltb, leb}
 use lib.ListN.{length, getD, set, drop, replicate}
 use lib.Seq.{drop-length}
-use borrow.Author.Tests.{le-leb, lt-leb, lt-ltb, le-ltb}
+use borrow.Author.Tests.{le-leb, lt-leb, lt-ltb, le-ltb, ltb-true}
 use borrow.Author.Fill.{fill-more}
+use Rattle.logic.specs.Pick.{pick}
 use Rattle.logic.specs.declared.Found.{Found}
 use Rattle.logic.specs.declared.Found.the-variants.{At as Free, Nothing}
 use Rattle.node.specs.declared.Node.{Node}
@@ -24,7 +25,8 @@ use Rattle.outcome.specs.declared.reply.Reply.{Reply}
 use Rattle.outcome.specs.Outcome.{Outcome, outcome, replyOf}
 use Rattle.pool.specs.declared.entering.Entered.{Entered}
 use Rattle.pool.specs.declared.entering.Entered.the-variants.{At, Refused}
-use Rattle.pool.specs.Calls.{freshPool, start, leafAt, newLeaf, new, entered, onEntered, onObject}
+use Rattle.pool.specs.Calls.{freshPool, start, leafAt, newLeaf, new, entered, onEntered, onObject, len}
+use Rattle.outcome.proofs.Laws.{Quiet, pick-has}
 
 append-nil : (l : List ℕ) → l ++ [] ≡ l
 append-nil [] = refl
@@ -74,6 +76,30 @@ module _ {A : Type 0} (L : ℕ) (p : Pool) (object : ℕ) (refuse : Refusal → 
   unfolding onObject onEntered
   object-refused h = rw (sym t ∙ h)
 
+-- what holds of a refusal and of the work holds of a call on an object
+module _ {A : Type 0} (B : A → Type 0) (L : ℕ) (p : Pool) (object : ℕ) {refuse : Refusal → A} {does : ℕ → A} (h : (r : Refusal) → B (refuse r)) (d : (n : ℕ) → B (does n)) where
+  pub on-object : B (onObject L p object refuse does)
+  unfolding onObject onEntered
+  on-object = by (entered L p object)
+    where
+      by : (e : Entered) → B (onEntered refuse does e)
+      by (At n) = d n
+      by (Refused r) = h r
+
+-- and what the tests found is known of each
+module _ {A : Type 0} (B : A → Type 0) (L : ℕ) (p : Pool) (object : ℕ) {refuse : Refusal → A} {does : ℕ → A} (bad : sound L p ≡ false → B (refuse BadPool)) (none : B (refuse NoObject))
+    (go : sound L p ≡ true → object < 64 → leafOf (nodeOf (p .nodes) object) ≡ true → B (does object)) where
+  pub on-leaf : B (onObject L p object refuse does)
+  unfolding onObject onEntered entered
+  on-leaf = by (sound L p) refl (ltb object 64) refl (leafOf (nodeOf (p .nodes) object)) refl
+    where
+      by : (s : Bool) → sound L p ≡ s → (a : Bool) → ltb object 64 ≡ a → (b : Bool) → leafOf (nodeOf (p .nodes) object) ≡ b
+          → B (onEntered refuse does (pick s (pick (a && b) (At object) (Refused NoObject)) (Refused BadPool)))
+      by false s a l b h = bad s
+      by true s true l true h = go s (ltb-true object 64 l) h
+      by true s true l false h = none
+      by true s false l b h = none
+
 module _ (N P U M H Y : List ℕ) (size : ℕ) {r : Reply} where
   pub leaf-new : {N′ H′ : List ℕ} {o i : ℕ} {f : Found} {n : Node} → o ≡ getD H 0 0 → o ≤ lastOwner → f ≡ freeNodeIn N → f ≡ Free i → n ≡ originNode size o → N′ ≡ withNode N i n → H′ ≡ set H 0 (o + 1) → r ≡ replyOf (Done i) → outcome r (poolOf N′ P U M H′ Y) [] [] ≡ newLeaf (poolOf N P U M H Y) size
   unfolding newLeaf leafAt
@@ -108,3 +134,22 @@ module _ (L : ℕ) (N P U M H Y : List ℕ) {b : Bool} {r : Reply} (t : b ≡ le
   pub start-bad : b ≡ false → r ≡ replyOf (No BadPool) → outcome r (poolOf N P U M H Y) [] [] ≡ start L (poolOf N P U M H Y)
   unfolding start
   start-bad h r = rw (r, sym t ∙ h)
+
+-- none of the calls sends a notice or takes a frame
+pub start-quiet : (L : ℕ) (p : Pool) → Quiet (start L p)
+unfolding start
+start-quiet L p = pick-has Quiet (lengthsOk L p) (refl, refl) (refl, refl)
+
+pub new-quiet : (L : ℕ) (p : Pool) (size : ℕ) → Quiet (new L p size)
+unfolding new newLeaf leafAt
+new-quiet L p size =
+    pick-has Quiet (sound L p)
+    (pick-has Quiet (leb size 64) (pick-has Quiet (leb (getD (p .head) 0 0) lastOwner) (by (freeNodeIn (p .nodes))) (refl, refl)) (refl, refl))
+    (refl, refl)
+  where
+    by : (f : Found) → Quiet (leafAt p size f)
+    by (Free i) = (refl, refl)
+    by Nothing = (refl, refl)
+
+pub len-quiet : (L : ℕ) (p : Pool) (object : ℕ) → Quiet (len L p object)
+len-quiet L p object = on-object Quiet L p object (λ r. (refl, refl)) (λ n. (refl, refl))

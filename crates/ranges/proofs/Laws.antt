@@ -12,7 +12,7 @@ use Rattle.node.specs.declared.Node.{Node}
 use Rattle.node.specs.Node.{byteLimit, cachedOf, containsOf}
 use Rattle.blocks.specs.declared.BlockIter.{BlockIter}
 use Rattle.blocks.specs.Blocks.{iterOf, pagesOf, countOf}
-use Rattle.tables.specs.Pool.{poolOf}
+use Rattle.tables.specs.Pool.{Pool, poolOf}
 use Rattle.tables.specs.Tables.{nodeOf}
 use Rattle.frames.specs.Frames.{freeCount}
 use Rattle.outcome.specs.Told.{toldOf}
@@ -28,7 +28,9 @@ use Rattle.outcome.specs.declared.reply.Reply.{Reply}
 use Rattle.outcome.specs.Outcome.{outcomeOf, outcome, replyOf}
 use Rattle.page.specs.Each.{Part, partOf, onward, each}
 use Rattle.page.specs.Pages.{Read, readOf, readPage, writePage, commitOne}
-use Rattle.ranges.specs.Ranges.{answerBy, rangedBy, againstWriting, writeRange, written, writeThrough, writeAt, againstCommitting, commitRange, committed, commitThrough, commitAt, againstReading, readRange, filled, readAt}
+use Rattle.ranges.specs.Ranges.{answerBy, rangedBy, againstWriting, writeRange, written, writeThrough, writeAt, againstCommitting, commitRange, committed, commitThrough, commitAt, againstReading, readRange, filled, readAt, read}
+use Rattle.outcome.proofs.Laws.{Quiet, tested}
+use Rattle.pool.proofs.Laws.{on-object}
 
 -- the loop over pages
 module _ {C S : Type 0} (step : C → S → Part C S) (c : C) (s : S) where
@@ -146,3 +148,8 @@ module _ (N P U M H Y : List ℕ) (n offset : ℕ) (buf : List ℕ) {a : Against
   pub read-done : {b : Against} {it : BlockIter} {s : Read} {r : Answer} {g : Reply} → a ≡ Fine → partOf b it s ≡ readRange 4096 N M n offset (readOf P U Y buf) → r ≡ answerBy b 0 → g ≡ replyOf r → outcome g (poolOf N (s .pages) (s .used) M H (s .memory)) [] (s .buf) ≡ readAt 4096 (poolOf N P U M H Y) n offset buf
   unfolding readAt filled
   read-done h d r g = rw (g, sym e ∙ h, ← d, r)
+
+-- a read sends no notice and takes no frame
+pub read-quiet : (L : ℕ) (p : Pool) (object offset : ℕ) (buf : List ℕ) → Quiet (read L p object offset buf)
+unfolding readAt filled
+read-quiet L p object offset buf = on-object Quiet L p object (λ r. (refl, refl)) (λ n. tested Quiet (againstReading L (p .nodes) n offset (length buf)) (λ r. (refl, refl)) (refl, refl))

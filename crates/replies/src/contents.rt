@@ -1,11 +1,9 @@
 // Calls on an object's pages.
 use crate::bytes;
 use crate::said::Did;
-use crate::said::noted;
-use crate::said::plain;
-use crate::said::ranged;
 use lines::Line;
-use pool::Answer;
+use outcome::Answer;
+use outcome::Reply;
 
 // How many bytes a line lends.
 pub fn lent(line: Line) -> u64 {
@@ -26,7 +24,7 @@ pub fn read(
     memory: &mut [u8],
     buf: &mut [u8],
 ) -> Did {
-    let answer = ranges::read(
+    let reply = ranges::read(
         nodes,
         pages,
         used,
@@ -37,12 +35,13 @@ pub fn read(
         line.b,
         buf,
     );
+    let answer = reply.answer;
     match answer {
         Answer::Done(_) => {
             let h = bytes::hash(buf);
-            return Did::Said(plain(Answer::Done(h as u64)));
+            return Did::Said(Reply::of(Answer::Done(h as u64)));
         }
-        Answer::Refused(why) => return Did::Said(plain(Answer::Refused(why))),
+        Answer::Refused(_) => return Did::Said(reply),
     }
 }
 
@@ -78,7 +77,7 @@ pub fn write(
         line.b,
         buf,
     );
-    Did::Said(ranged(done))
+    Did::Said(done)
 }
 
 // c O offset len
@@ -92,7 +91,7 @@ pub fn commit(
     memory: &mut [u8],
     notices: &mut [u32],
 ) -> Did {
-    Did::Said(ranged(ranges::commit(
+    Did::Said(ranges::commit(
         nodes,
         pages,
         used,
@@ -103,7 +102,7 @@ pub fn commit(
         line.a,
         line.b,
         line.c,
-    )))
+    ))
 }
 
 // g O page w: commit_page, for writing if w is 1.
@@ -132,7 +131,7 @@ pub fn commit_page(
         line.b,
         line.c == 1,
     );
-    Did::Said(noted(done))
+    Did::Said(done)
 }
 
 // h O page: 0 if nothing is shown, else 1 + H of the page.
@@ -158,7 +157,7 @@ pub fn peek(
         line.b,
     );
     if shown.len() == 0 {
-        return Did::Said(plain(Answer::Done(0)));
+        return Did::Said(Reply::of(Answer::Done(0)));
     }
-    Did::Said(plain(Answer::Done(bytes::hash(shown) as u64 + 1)))
+    Did::Said(Reply::of(Answer::Done(bytes::hash(shown) as u64 + 1)))
 }

@@ -10,8 +10,6 @@ use lines::Line;
 pub use objects::holds;
 pub use objects::lends;
 pub use said::Did;
-pub use said::Said;
-use said::plain;
 
 fn call_one(
     line: Line,
@@ -26,8 +24,8 @@ fn call_one(
     match letter {
         b's' => Did::Said(objects::start(line.a, nodes, pages, used, mappings, head, memory)),
         b'a' => Did::Said(objects::lend(line.a)),
-        b'n' => Did::Said(plain(pool::new(nodes, pages, used, mappings, head, memory, line.a))),
-        b'l' => Did::Said(plain(pool::len(nodes, pages, used, mappings, head, memory, line.a))),
+        b'n' => Did::Said(pool::new(nodes, pages, used, mappings, head, memory, line.a)),
+        b'l' => Did::Said(pool::len(nodes, pages, used, mappings, head, memory, line.a)),
         _ => Did::Nothing,
     }
 }

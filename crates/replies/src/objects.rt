@@ -1,12 +1,10 @@
 // Calls on the pool and its objects.
 use crate::bytes;
 use crate::said::Did;
-use crate::said::Said;
-use crate::said::noted;
-use crate::said::plain;
 use lines::Line;
-use pool::Answer;
-use pool::Refusal;
+use outcome::Answer;
+use outcome::Refusal;
+use outcome::Reply;
 
 // s F: this program holds 64 frames.
 pub fn holds(frames: u64) -> bool {
@@ -18,11 +16,11 @@ pub fn lends(room: u64) -> bool {
     room <= 4096
 }
 
-pub fn lend(room: u64) -> Said {
+pub fn lend(room: u64) -> Reply {
     if lends(room) {
-        return plain(Answer::Done(0));
+        return Reply::of(Answer::Done(0));
     }
-    plain(Answer::Refused(Refusal::InvalidArgs))
+    Reply::refused(Refusal::InvalidArgs)
 }
 
 // s F: a fresh pool, memory zeros.
@@ -34,12 +32,12 @@ pub fn start(
     mappings: &mut [u32],
     head: &mut [u32],
     memory: &mut [u8],
-) -> Said {
+) -> Reply {
     if holds(frames) {
         bytes::wipe(memory);
-        return plain(pool::start(nodes, pages, used, mappings, head, memory));
+        return pool::start(nodes, pages, used, mappings, head, memory);
     }
-    plain(Answer::Refused(Refusal::BadPool))
+    Reply::refused(Refusal::BadPool)
 }
 
 // An offset or a length of k, in pages, or of K, in bytes.
@@ -61,7 +59,7 @@ pub fn child(
     memory: &[u8],
     notices: &mut [u32],
 ) -> Did {
-    Did::Said(noted(child::create_child(
+    Did::Said(child::create_child(
         nodes,
         pages,
         used,
@@ -72,7 +70,7 @@ pub fn child(
         line.a,
         in_unit(line.letter, line.b),
         in_unit(line.letter, line.c),
-    )))
+    ))
 }
 
 // m O first pages
@@ -85,7 +83,7 @@ pub fn map(
     head: &[u32],
     memory: &[u8],
 ) -> Did {
-    Did::Said(plain(mapped::append_mapping(
+    Did::Said(mapped::append_mapping(
         nodes,
         pages,
         used,
@@ -95,7 +93,7 @@ pub fn map(
         line.a,
         line.b,
         line.c,
-    )))
+    ))
 }
 
 // u O M
@@ -108,7 +106,7 @@ pub fn unmap(
     head: &[u32],
     memory: &[u8],
 ) -> Did {
-    Did::Said(plain(mapped::remove_mapping(
+    Did::Said(mapped::remove_mapping(
         nodes,
         pages,
         used,
@@ -117,7 +115,7 @@ pub fn unmap(
         memory,
         line.a,
         line.b,
-    )))
+    ))
 }
 
 // f O offset len
@@ -130,7 +128,7 @@ pub fn forecast(
     head: &[u32],
     memory: &[u8],
 ) -> Did {
-    Did::Said(plain(forecast::forecast(
+    Did::Said(forecast::forecast(
         nodes,
         pages,
         used,
@@ -140,5 +138,5 @@ pub fn forecast(
         line.a,
         line.b,
         line.c,
-    )))
+    ))
 }

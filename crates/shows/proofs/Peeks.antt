@@ -25,8 +25,8 @@ use Rattle.outcome.specs.Answers.{unless}
 use Rattle.pool.specs.Calls.{findObject, atNode, onNode}
 use Rattle.page.specs.Pages.{readOf}
 use Rattle.ranges.specs.Ranges.{Filled, filled, unfilled, againstReading, readRange, readAt, read}
-use Rattle.peek.specs.declared.Place.{Place}
-use Rattle.peek.specs.declared.Place.the-variants.{Nowhere}
+use Rattle.peek.specs.declared.Shown.{Shown}
+use Rattle.peek.specs.declared.Shown.the-variants.{Nowhere}
 use Rattle.peek.specs.Peek.{zeroPageOf, placeBy, placeAt, place, shownAt, peek}
 use Rattle.shows.specs.Shows.{Peeked, Refuses}
 use Rattle.shows.specs.Shows.Peeked.{nothing, bytes}

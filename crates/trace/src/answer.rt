@@ -75,7 +75,7 @@ fn call(
         buf,
     );
     match did {
-        Did::Said(said) => say::answer(said, nodes, pages, used, mappings, head, memory, notices),
+        Did::Said(reply) => say::answer(reply, nodes, pages, used, mappings, head, memory, notices),
         Did::Nothing => say::bad(),
     }
 }

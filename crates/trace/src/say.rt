@@ -1,6 +1,6 @@
 // Writes an answer line.
 use libc::STDOUT_FILENO;
-use replies::Said;
+use outcome::Reply;
 
 fn number(n: u64) {
     io::print_decimal(STDOUT_FILENO, n);
@@ -38,7 +38,7 @@ fn notes(notices: &[u32], count: usize) {
 }
 
 pub fn answer(
-    said: Said,
+    reply: Reply,
     nodes: &[u32],
     pages: &[u32],
     used: &[u8],
@@ -47,15 +47,15 @@ pub fn answer(
     memory: &[u8],
     notices: &[u32],
 ) {
-    number(said.code as u64);
-    spaced(said.value);
-    spaced(said.taken as u64);
+    number(reply.code() as u64);
+    spaced(reply.value());
+    spaced(reply.taken as u64);
     spaced(report::free(used) as u64);
     spaced(tables::at(head, 0) as u64);
     spaced(report::tree(nodes, pages) as u64);
     spaced(report::maps(mappings) as u64);
     spaced(report::mem(used, memory) as u64);
-    spaced(said.count as u64);
-    notes(notices, said.count);
+    spaced(reply.count as u64);
+    notes(notices, reply.count);
     end_line();
 }

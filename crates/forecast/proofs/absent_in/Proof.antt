@@ -1,3 +1,4 @@
+-- `forecast::absent_in` meets its contract.
 use mathlib.Core.Path.{_≡_, refl}
 use Prim.Native.Nat.{_≤_, _-_}
 use native.Mathlib.Omega.{arith}
@@ -25,7 +26,8 @@ loop-again c = (search needs, search needs, sum-next _ _ (c .before .before .loo
 returns : tie.Need-returns Inv-loop μ-loop
 unfolding absentIn
 returns c =
-    let h : c .before .loop .k ≡ c .before .before .before .args .count = omega arith in
+    let the-args = c .before .before .before .args in
+    let h : c .before .loop .k ≡ the-args .count = omega arith in
     rw h at (c .before .loop .inv .2)
 
 pub absent-in-spec : {M : Type 1} → statement M

@@ -1,4 +1,5 @@
-use mathlib.Core.Path.{refl, _∙_}
+-- `peek::frame_bytes` meets its contract.
+use mathlib.Core.Path.{refl}
 use Rattle.peek.proofs.Laws.{bytes-in, bytes-out}
 use borrow.Author.Needs.{needs}
 use Rattle.peek.proofs.frame_bytes.Statement.{statement}

@@ -1,7 +1,7 @@
+-- `peek::is_zero_page` meets its contract.
 use mathlib.Core.Path.{_≡_, refl}
 use Prim.Native.Nat.{_≤_, _-_}
 use native.Mathlib.Omega.{arith}
-use lib.ListN.{length}
 use Rattle.logic.specs.Below.{allBelow}
 use Rattle.logic.proofs.Laws.{all-next}
 use Rattle.peek.specs.Peek.{blankByte}
@@ -28,7 +28,9 @@ unfolding blankByte
 loop-again c = (omega (arith, c .before .loop-test .taken), all-next _ _ (c .before .before .loop .inv .1) refl)
 
 returns-2 : tie.Need-returns-2 Inv-loop μ-loop
-returns-2 c = let h : c .before .loop .i ≡ 4096 = omega (arith, c .before .loop .inv .0, c .loop-test .left) in zeros-all _ (c .before .before .if1 .left) h (c .before .loop .inv .1)
+returns-2 c =
+    let h : c .before .loop .i ≡ 4096 = omega (arith, c .before .loop .inv .0, c .loop-test .left) in
+    zeros-all _ (c .before .before .if1 .left) h (c .before .loop .inv .1)
 
 pub is-zero-page-spec : {M : Type 1} → statement M
 is-zero-page-spec =

@@ -1,3 +1,4 @@
+-- `peek::peek` meets its contract.
 use mathlib.Core.Path.{refl}
 use Rattle.peek.proofs.Laws.{peek-frame, peek-zero, peek-none}
 use borrow.Author.Needs.{needs}
@@ -5,13 +6,17 @@ use Rattle.peek.proofs.peek.Statement.{statement}
 use Rattle.peek.proofs.peek.Tie as tie
 
 returns : tie.Need-returns
-returns c = peek-frame _ _ _ _ (c .before .before .before .before .find .ensures) (c .before .before .place .given .1) (c .frame-bytes .ensures)
+returns c =
+    let at-find = c .before .before .before .before in
+    peek-frame _ _ _ _ (at-find .find .ensures) (c .before .before .place .given .1) (c .frame-bytes .ensures)
 
 returns-2 : tie.Need-returns-2
 returns-2 c = peek-zero _ _ _ _ (c .before .before .find .ensures) (c .enum-told .given .1)
 
 returns-3 : tie.Need-returns-3
-returns-3 c = peek-none _ _ _ _ (c .before .before .before .find .ensures) (c .before .enum-told2 .given .1) refl
+returns-3 c =
+    let at-find = c .before .before .before in
+    peek-none _ _ _ _ (at-find .find .ensures) (c .before .enum-told2 .given .1) refl
 
 pub peek-spec : {M : Type 1} → statement M
 peek-spec =

@@ -1,3 +1,4 @@
+-- `peek::place_by` meets its contract.
 use borrow.Author.Needs.{needs}
 use Rattle.peek.proofs.place_by.Statement.{statement}
 use Rattle.peek.proofs.place_by.Tie as tie

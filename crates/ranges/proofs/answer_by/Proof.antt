@@ -1,3 +1,4 @@
+-- `ranges::answer_by` meets its contract.
 use borrow.Author.Needs.{needs}
 use Rattle.ranges.proofs.answer_by.Statement.{statement}
 use Rattle.ranges.proofs.answer_by.Tie as tie

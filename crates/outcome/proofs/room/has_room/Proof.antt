@@ -1,3 +1,4 @@
+-- `outcome::room::has_room` meets its contract.
 use native.Mathlib.Omega.{arith}
 use native.Mathlib.Nat.{mul-le-mul}
 use Rattle.outcome.specs.Room.{roomOf}
@@ -6,7 +7,9 @@ use Rattle.outcome.proofs.room.has_room.Statement.{statement}
 use Rattle.outcome.proofs.room.has_room.Tie as tie
 
 mul-result : tie.Need-mul-result
-mul-result c = omega (arith, mul-le-mul (c .before .before .before .pre) (c .live-count .ensures .1))
+mul-result c =
+    let the-pre = c .before .before .before .pre in
+    omega (arith, mul-le-mul the-pre (c .live-count .ensures .1))
 
 returns : tie.Need-returns
 unfolding roomOf

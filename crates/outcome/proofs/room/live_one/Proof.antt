@@ -1,3 +1,4 @@
+-- `outcome::room::live_one` meets its contract.
 use borrow.Author.Tests.{eq-eqb, ne-eqb}
 use mathlib.Core.Path.{sym, _∙_}
 use Rattle.outcome.specs.Room.{liveOne}

@@ -1,3 +1,4 @@
+-- `page::reading::against_read` meets its contract.
 use borrow.Author.Needs.{needs}
 use Rattle.page.proofs.reading.against_read.Statement.{statement}
 use Rattle.page.proofs.reading.against_read.Tie as tie

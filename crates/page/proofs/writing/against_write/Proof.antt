@@ -1,3 +1,4 @@
+-- `page::writing::against_write` meets its contract.
 use borrow.Author.Needs.{needs}
 use Rattle.page.proofs.writing.against_write.Statement.{statement}
 use Rattle.page.proofs.writing.against_write.Tie as tie

@@ -1,3 +1,4 @@
+-- `pool::steps::clear_flags` meets its contract.
 use mathlib.Core.Path.{_≡_, refl}
 use mathlib.Core.List.{_++_}
 use Prim.Native.Nat.{_≤_, _-_}

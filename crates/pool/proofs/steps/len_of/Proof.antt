@@ -1,3 +1,4 @@
+-- `pool::steps::len_of` meets its contract.
 use Rattle.pool.specs.Calls.{lenOf}
 use borrow.Author.Needs.{needs}
 use Rattle.pool.proofs.steps.len_of.Statement.{statement}
