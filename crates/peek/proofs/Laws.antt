@@ -12,13 +12,14 @@ use Rattle.node.specs.declared.Node.{Node}
 use Rattle.node.specs.Node.{cachedOf, containsOf}
 use Rattle.tables.specs.Pool.{Pool, poolOf}
 use Rattle.tables.specs.Tables.{nodeOf}
-use Rattle.seek.specs.declared.Sought.{Sought}
-use Rattle.seek.specs.Seek.{seekPage}
+use Rattle.lookup.specs.declared.End.{End}
+use Rattle.lookup.specs.Mode.{today, placeOf}
+use Rattle.lookup.specs.Descent.{way, walk}
 use Rattle.pool.specs.Calls.{onObject}
 use Rattle.ranges.specs.Ranges.{againstReading}
 use Rattle.peek.specs.declared.Shown.{Shown}
 use Rattle.peek.specs.declared.Shown.the-variants.{Frame, ZeroPage, Nowhere}
-use Rattle.peek.specs.Peek.{blankByte, zeroPageOf, placeBy, placeAt, place, frameBytes, peek}
+use Rattle.peek.specs.Peek.{blankByte, zeroPageOf, shownBy, placeAt, place, frameBytes, peek}
 
 -- the zero page
 module _ (zero : List ℕ) where
@@ -48,7 +49,7 @@ module _ (N P U M H Y : List ℕ) (node page : ℕ) {n : Node} {c : Bool} (e : n
   unfolding placeAt againstReading
   place-policy h = rw (← e, sym g ∙ h)
 
-  pub place-inside : {s : Sought} {r : Place} → c ≡ true → page < n .size → s ≡ seekPage N P node page false → r ≡ placeBy s → r ≡ placeAt 4096 (poolOf N P U M H Y) node page
+  pub place-inside : {d : ℕ} {x : End} {r : Shown} → c ≡ true → page < n .size → way d x ≡ walk (today 4096 N M) 64 P (placeOf node page node) → r ≡ shownBy x → r ≡ placeAt 4096 (poolOf N P U M H Y) node page
   unfolding placeAt againstReading containsOf
   place-inside h l s r = rw (← e, sym g ∙ h, le-leb (page * 4096 + 4096) (n .size * 4096) (omega (arith, l)), ← s) r
 
@@ -61,11 +62,11 @@ module _ (p : Pool) (zero : List ℕ) (object page : ℕ) {b : Bool} (e : b ≡ 
   unfolding place
   find-bad h = rw (sym e ∙ h)
 
-  pub find-good : {r : Place} → b ≡ true → r ≡ onObject 4096 p object (λ r. Nowhere) (λ n. placeAt 4096 p n page) → r ≡ place 4096 p zero object page
+  pub find-good : {r : Shown} → b ≡ true → r ≡ onObject 4096 p object (λ r. Nowhere) (λ n. placeAt 4096 p n page) → r ≡ place 4096 p zero object page
   unfolding place
   find-good h r = rw (sym e ∙ h) r
 
-module _ (p : Pool) (zero : List ℕ) (object page : ℕ) {q : Place} (e : q ≡ place 4096 p zero object page) where
+module _ (p : Pool) (zero : List ℕ) (object page : ℕ) {q : Shown} (e : q ≡ place 4096 p zero object page) where
   pub peek-frame : {f : ℕ} {s : List ℕ} → q ≡ Frame f → s ≡ frameBytes 4096 (p .memory) f → s ≡ peek 4096 p zero object page
   unfolding peek
   peek-frame h s = rw (sym e ∙ h) s
