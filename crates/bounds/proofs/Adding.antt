@@ -6,7 +6,7 @@ use native.Mathlib.Omega.{arith}
 use lib.ListN.{length, getD, set, length-set}
 use lib.Seq.{getD-set-same, getD-set-other}
 use borrow.Author.Tests.{lt-ltb, le-ltb}
-use Rattle.notices.specs.declared.Notice.{Notice}
+use Rattle.outcome.specs.declared.notice.Notice.{Notice}
 use Rattle.outcome.specs.Told.{Told, toldOf, noticeBy, putNotice}
 use Rattle.logic.proofs.Means.{less, split}
 use Rattle.bounds.specs.Telling.{putAll, noticeIn, Wrote, Added}

@@ -11,7 +11,7 @@ use Rattle.logic.specs.Pick.{pick}
 use Rattle.logic.specs.Below.{sumBelow}
 use Rattle.node.specs.Node.{hiddenOf}
 use Rattle.tables.specs.Tables.{nodeOf, mappingOf, numberOf}
-use Rattle.notices.specs.declared.Notice.{Notice}
+use Rattle.outcome.specs.declared.notice.Notice.{Notice}
 use Rattle.notices.specs.declared.Due.{Due}
 use Rattle.notices.specs.declared.Due.the-variants.{Notice as Tell, Nothing}
 use Rattle.outcome.specs.Told.{Told}

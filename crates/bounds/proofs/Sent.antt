@@ -15,7 +15,7 @@ use Rattle.entry.specs.Entry.{splitOf, newState}
 use Rattle.node.specs.Node.{hiddenOf, windowOf, outOf, sideOf}
 use Rattle.tables.specs.Tables.{nodeOf, slotAt, withState}
 use Rattle.frames.specs.Frames.{freeFrameIn}
-use Rattle.notices.specs.declared.Notice.{Notice}
+use Rattle.outcome.specs.declared.notice.Notice.{Notice}
 use Rattle.outcome.specs.Told.{Told}
 use Rattle.notices.specs.Notices.{rangeChange}
 use Rattle.lookup.specs.declared.Looked.{Looked}

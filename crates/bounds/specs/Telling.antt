@@ -3,7 +3,7 @@ use mathlib.Core.Path.{_≡_}
 use mathlib.Core.List.{List, [], _∷_}
 use Prim.Native.Nat.{ℕ, _+_, _*_, _≤_, _<_}
 use lib.ListN.{length, getD}
-use Rattle.notices.specs.declared.Notice.{Notice}
+use Rattle.outcome.specs.declared.notice.Notice.{Notice}
 use Rattle.outcome.specs.Told.{Told, noticeBy, putNotice}
 use Rattle.lookup.specs.declared.Looked.{Looked}
 use Rattle.lookup.specs.Work.{workOf, Looking, lookingOf}
