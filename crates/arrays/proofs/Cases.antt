@@ -14,9 +14,11 @@ use Rattle.notices.specs.Notices.{childOf}
 use Rattle.lookup.specs.Lookup.{asksOf, cleared, freshBy, fresh, leafTold, settleBy, settle, handedBy, enter, look}
 use Rattle.outcome.specs.declared.answer.Answer.the-variants.{Refused}
 use Rattle.outcome.specs.declared.answer.Refusal.the-variants.{NoMemory}
+use Rattle.outcome.specs.declared.answer.Answer.{Answer}
+use Rattle.outcome.specs.Outcome.{Outcome}
 use Rattle.page.specs.Each.{onward, each}
 use Rattle.page.specs.Pages.{storedBy, wrotePage, writeBy, writePage, readOf, fetchedBy, lookRead, readThrough, readBy, readPage}
-use Rattle.ranges.specs.Ranges.{Ranging, rangedBy, writeRange, written, writeThrough, filled, readRange}
+use Rattle.ranges.specs.Ranges.{rangedBy, writeRange, written, writeThrough, filled, readRange}
 use Rattle.isolation.specs.Need.{needAbove, need}
 use Rattle.arrays.specs.Arrays.{writeArray, touched, needs}
 
@@ -25,7 +27,7 @@ pub pool : Pool
 pool = poolOf (1 ∷ 0 ∷ 0 ∷ 0 ∷ 0 ∷ 0 ∷ 4 ∷ 1 ∷ 0 ∷ 0 ∷ 0 ∷ 0 ∷ 0 ∷ 0 ∷ 0 ∷ 0 ∷ []) (replicate 64 0) (0 ∷ 0 ∷ []) [] (2 ∷ 0 ∷ 0 ∷ 0 ∷ []) (replicate 8 7)
 
 -- nine bytes from byte 3 on touch three pages, which need three frames: the first two pages are written
-pub run : Ranging
+pub run : Outcome Answer
 run = writeThrough 4 pool [] 0 3 (1 ∷ 2 ∷ 3 ∷ 4 ∷ 5 ∷ 6 ∷ 7 ∷ 8 ∷ 9 ∷ [])
 
 three-pages : touched 4 3 9 ≡ 3
@@ -36,13 +38,13 @@ three-frames : needs (pool .nodes) (pool .pages) 0 0 3 ≡ 3
 unfolding pool needs sumBelow need needAbove nodeOf recordOf wordOf slotAt slotOf stateOf tagOf entryOf outOf sideOf childOf
 three-frames = refl
 
-two-written : (run .said .answer ≡ Refused NoMemory) × (_≡_ {A = ℕ} (run .done) 5) × (_≡_ {A = ℕ} (run .taken) 2) × (run .said .pool .memory ≡ 0 ∷ 0 ∷ 0 ∷ 1 ∷ 2 ∷ 3 ∷ 4 ∷ 5 ∷ [])
+two-written : (run .answer ≡ Refused NoMemory) × (_≡_ {A = ℕ} (run .done) 5) × (_≡_ {A = ℕ} (run .taken) 2) × (run .pool .memory ≡ 0 ∷ 0 ∷ 0 ∷ 1 ∷ 2 ∷ 3 ∷ 4 ∷ 5 ∷ [])
 unfolding run pool writeThrough written rangedBy writeRange each onward writePage writeBy wrotePage storedBy nextOf nextBy blockEnd countOf pagesOf look enter asksOf fresh freshBy cleared settle settleBy leafTold handedBy nodeOf recordOf wordOf slotAt slotOf stateOf tagOf entryOf withEntry withState entryWord outOf idleOf oneIdle freeCount freeFrameIn firstFrom sumBelow pastedAt copied clearedAt zeroed
 two-written = (refl, refl, refl, refl)
 
 -- what is read of it again: the bytes written, and zeros
 abbrev pub after : Pool
-after = run .said .pool
+after = run .pool
 
 read-again : filled after (readRange 4 (after .nodes) (after .mappings) 0 2 (readOf (after .pages) (after .used) (after .memory) (9 ∷ 9 ∷ 9 ∷ 9 ∷ 9 ∷ 9 ∷ 9 ∷ 9 ∷ []))) .buf ≡ 0 ∷ 1 ∷ 2 ∷ 3 ∷ 4 ∷ 5 ∷ 0 ∷ 0 ∷ []
 unfolding run pool writeThrough written rangedBy writeRange each onward writePage writeBy wrotePage storedBy nextOf nextBy blockEnd countOf pagesOf look enter asksOf fresh freshBy cleared settle settleBy leafTold handedBy nodeOf recordOf wordOf slotAt slotOf stateOf tagOf entryOf withEntry withState entryWord outOf idleOf oneIdle freeCount freeFrameIn firstFrom sumBelow pastedAt copied clearedAt zeroed filled readRange readPage readBy readThrough lookRead fetchedBy blankAt

@@ -25,7 +25,7 @@ module _ (p : Pool) (n first pages : ℕ) (why : Against) (done value : ℕ) (w 
       omega arith
 
   pub closes : {X Y : Type 0} {Z : ℕ → Type 0} → (Y → done ≡ value) → ((d : ℕ) → Z d → X × (done ≡ doneBy d)) → Ending p n first pages why (w .used) Y Z
-      → Granted p n first pages value (rangedBy p why done done w) ⊎ (X × Short p n first pages doneBy (rangedBy p why done done w))
+      → Granted p n first pages value (rangedBy p why done w) ⊎ (X × Short p n first pages doneBy (rangedBy p why done w))
   unfolding rangedBy
   closes f g (all e c y) =
       inl (record { answer = rw (e, f y); done = f y; enough = omega arith; taken = omega arith })

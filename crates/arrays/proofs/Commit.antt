@@ -17,7 +17,7 @@ use Rattle.sound.specs.Facts.{Leaf}
 use Rattle.outcome.specs.declared.answer.Against.{Against}
 use Rattle.outcome.specs.declared.answer.Against.the-variants.{Nothing as Fine}
 use Rattle.page.specs.Each.{Part, partOf}
-use Rattle.page.specs.Pages.{againstWrite, restBy, committedPage, commitPage}
+use Rattle.page.specs.Pages.{againstWrite, restBy, committedOne, commitOne}
 use Rattle.ranges.specs.Ranges.{workIn, rangedBy, commitRange, committed, commitThrough}
 use Rattle.isolation.specs.Private.{Private}
 use Rattle.isolation.specs.Kept.{poolWith, Kept}
@@ -43,7 +43,7 @@ module _ (L : ℕ) (A : ℕ → ℕ → ℕ → ℕ) (p : Pool) (n first pages :
     ends : Ending p n first pages (r .why) (r .state .used) (Unit {0}) (λ d. Unit {0})
 
   abbrev Next : ℕ → Against → Part ℕ Work → Type 0
-  Next k a q = Goes (commitPage L (p .nodes) (p .mappings) n) Before After k a q
+  Next k a q = Goes (commitOne L (p .nodes) (p .mappings) n) Before After k a q
 
   turn-by : (k d : ℕ) (w : Work) → d + suc k ≡ pages → Private L A (poolWith p w) → Spent p n first d w → (z : Looked) (v : Work) → Kept L A (poolWith p w) (w .told) n (first + d) true (lookingOf z v)
       → Next k (againstWrite z) (partOf (againstWrite z) (restBy (againstWrite z) (first + d) (first + d + 1)) v)
@@ -56,12 +56,12 @@ module _ (L : ℕ) (A : ℕ → ℕ → ℕ → ℕ) (p : Pool) (n first pages :
   turn-by k d w e P s (New f) v K = absurd (K .answers)
   turn-by k d w e P s Stopped v K = absurd (K .answers)
 
-  turn : (k i : ℕ) (w : Work) → Before (suc k) i w → Next k (commitPage L (p .nodes) (p .mappings) n i w .why) (commitPage L (p .nodes) (p .mappings) n i w)
-  unfolding commitPage committedPage
+  turn : (k i : ℕ) (w : Work) → Before (suc k) i w → Next k (commitOne L (p .nodes) (p .mappings) n i w .why) (commitOne L (p .nodes) (p .mappings) n i w)
+  unfolding commitOne committedOne
   turn k i w b =
       let d = b .done in
       let m = b .all-pages in
-      subst (λ (j : ℕ). Next k (commitPage L (p .nodes) (p .mappings) n j w .why) (commitPage L (p .nodes) (p .mappings) n j w)) (sym (b .here))
+      subst (λ (j : ℕ). Next k (commitOne L (p .nodes) (p .mappings) n j w .why) (commitOne L (p .nodes) (p .mappings) n j w)) (sym (b .here))
       (let l = look L 64 (p .nodes) (p .mappings) w n (first + d) true n in
       turn-by k d w m (b .private) (b .spent) (l .answer) (l .work) (look-goes-on L A p w (b .private) n (first + d) true leaf (omega arith)))
 
@@ -73,7 +73,7 @@ module _ (L : ℕ) (A : ℕ → ℕ → ℕ → ℕ) (p : Pool) (n first pages :
   range-commits : (w : Work) → Private L A (poolWith p w) → Spent p n first 0 w → After (commitRange L (p .nodes) (p .mappings) n first pages w)
   unfolding commitRange
   range-commits w P s =
-      each-keeps (commitPage L (p .nodes) (p .mappings) n) Before After ends turn pages first w
+      each-keeps (commitOne L (p .nodes) (p .mappings) n) Before After ends turn pages first w
       (record { done = 0; here = omega arith; all-pages = omega arith; private = P; spent = s })
 
 -- the pages of a range that lies inside lie inside

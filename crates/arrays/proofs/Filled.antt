@@ -7,28 +7,25 @@ use native.Mathlib.Omega.{arith}
 use lib.Dec.{ltb}
 use lib.ListN.{length}
 use Rattle.logic.specs.Pick.{pick}
-use Rattle.logic.specs.declared.Found.the-variants.{At, Nothing}
 use Rattle.blocks.specs.declared.BlockIter.{BlockIter}
 use Rattle.blocks.specs.declared.Next.{Next}
 use Rattle.blocks.specs.declared.Next.the-variants.{Block, Done as NoBlock}
 use Rattle.blocks.specs.Blocks.{nextOf}
-use Rattle.node.specs.Node.{leafOf}
 use Rattle.tables.specs.Pool.{Pool}
-use Rattle.tables.specs.Tables.{nodeOf}
 use Rattle.outcome.specs.Told.{toldOf}
 use Rattle.lookup.specs.declared.Looked.{Looked}
 use Rattle.lookup.specs.Work.{workOf}
-use Rattle.sound.specs.Sound.{sound}
 use Rattle.sound.specs.Facts.{Leaf, Sound}
 use Rattle.outcome.specs.declared.answer.Answer.the-variants.{Done, Refused}
 use Rattle.outcome.specs.declared.answer.Refusal.{Refusal}
-use Rattle.outcome.specs.declared.answer.Refusal.the-variants.{BadPool}
 use Rattle.outcome.specs.declared.answer.Against.{Against}
 use Rattle.outcome.specs.declared.answer.Against.the-variants.{Why, Nothing as Fine}
 use Rattle.outcome.specs.Answers.{unless}
-use Rattle.pool.specs.Calls.{findObject, atNode, onNode}
+use Rattle.outcome.specs.declared.answer.Answer.{Answer}
+use Rattle.outcome.specs.Outcome.{Outcome, refused}
+use Rattle.pool.proofs.Laws.{on-leaf}
 use Rattle.page.specs.Pages.{againstRead, Read, readOf, lookRead, readThrough, readBy, readPage}
-use Rattle.ranges.specs.Ranges.{Filled, filled, unfilled, againstReading, readRange, readAt, read}
+use Rattle.ranges.specs.Ranges.{filled, againstReading, readRange, readAt, read}
 use Rattle.soundness.proofs.Soundness.{sound-facts}
 use Rattle.bounds.specs.Reading.{Answers}
 use Rattle.bounds.specs.Reading.Answers.{frame, zeros}
@@ -61,26 +58,17 @@ module _ (L : ℕ) (p : Pool) (s : Sound L p) (n : ℕ) (leaf : Leaf (p .nodes) 
   unfolding readAt filled
   at-fills buf why h = by (againstReading L (p .nodes) n offset (length buf)) h
     where
-      f : Filled
+      f : Outcome Answer
       f = filled p (readRange L (p .nodes) (p .mappings) n offset (readOf (p .pages) (p .used) (p .memory) buf))
 
       done : f .answer ≡ Done 0
       done = rw (range-fine (readOf (p .pages) (p .used) (p .memory) buf))
 
-      by : (a : Against) → unless a (unfilled p buf) f .answer ≡ Refused why → unless a (unfilled p buf) f .buf ≡ buf
+      by : (a : Against) → unless a (refused p [] buf) f .answer ≡ Refused why → unless a (refused p [] buf) f .buf ≡ buf
       by (Why r) e = refl
       by Fine e = let d = done in let z : _≡_ {A = ℕ} 0 1 = cc in absurd (omega arith)
 
--- the call by what its tests say
-abbrev callBy : ℕ → Pool → ℕ → ℕ → List ℕ → (s a b : Bool) → Filled
-callBy L p object offset buf s a b = pick s (atNode (unfilled p buf) (λ n. readAt L p n offset buf) (pick a (pick b (At object) Nothing) Nothing)) (unfilled p buf BadPool)
-
 pub refused-fills : (L : ℕ) (p : Pool) (object offset : ℕ) (buf : List ℕ) (why : Refusal) → read L p object offset buf .answer ≡ Refused why → read L p object offset buf .buf ≡ buf
-unfolding onNode findObject atNode
-refused-fills L p object offset buf why h = by (sound L p) (ltb object 64) (leafOf (nodeOf (p .nodes) object)) refl refl h
-  where
-    by : (s a b : Bool) → sound L p ≡ s → leafOf (nodeOf (p .nodes) object) ≡ b → callBy L p object offset buf s a b .answer ≡ Refused why → callBy L p object offset buf s a b .buf ≡ buf
-    by false a b e f g = refl
-    by true false b e f g = refl
-    by true true false e f g = refl
-    by true true true e f g = at-fills L p (sound-facts L p e) object f offset buf why g
+refused-fills L p object offset buf why =
+    on-leaf (λ (o : Outcome Answer). o .answer ≡ Refused why → o .buf ≡ buf) L p object (refused p [] buf) (λ n. readAt L p n offset buf)
+    (λ s g. refl) (λ g. refl) (λ s l leaf g. at-fills L p (sound-facts L p s) object leaf offset buf why g)

@@ -25,7 +25,7 @@ use Rattle.sound.specs.Facts.{Leaf, Sound}
 use Rattle.outcome.specs.declared.answer.Against.{Against}
 use Rattle.outcome.specs.declared.answer.Against.the-variants.{Why, Nothing as Fine}
 use Rattle.page.specs.Each.{partOf}
-use Rattle.page.specs.Pages.{againstWrite, againstRead, restBy, storedBy, wrotePage, writeBy, writePage, committedPage, commitPage, Read, lookRead, readThrough, readBy, readPage}
+use Rattle.page.specs.Pages.{againstWrite, againstRead, restBy, storedBy, wrotePage, writeBy, writePage, committedOne, commitOne, Read, lookRead, readThrough, readBy, readPage}
 use Rattle.ranges.specs.Ranges.{readRange, writeRange, commitRange}
 use Rattle.isolation.specs.Kept.{poolWith}
 use Rattle.arrays.proofs.Each.{Goes, each-keeps, each-holds}
@@ -98,21 +98,21 @@ module _ (L : ℕ) (p : Pool) (s : Sound L p) where
   module _ (n : ℕ) (leaf : Leaf (p .nodes) n) where
     -- commit, page by page
     commit-turn : (k i : ℕ) (w : Work) → (i + suc k ≤ nodeOf (p .nodes) n .size) × Fits w
-        → Goes (commitPage L (p .nodes) (p .mappings) n) (λ k i w. (i + k ≤ nodeOf (p .nodes) n .size) × Fits w) (λ r. Fits (r .state)) k
-        (commitPage L (p .nodes) (p .mappings) n i w .why) (commitPage L (p .nodes) (p .mappings) n i w)
-    unfolding commitPage committedPage
+        → Goes (commitOne L (p .nodes) (p .mappings) n) (λ k i w. (i + k ≤ nodeOf (p .nodes) n .size) × Fits w) (λ r. Fits (r .state)) k
+        (commitOne L (p .nodes) (p .mappings) n i w .why) (commitOne L (p .nodes) (p .mappings) n i w)
+    unfolding commitOne committedOne
     commit-turn k i w (low, o) =
         let l = look L 64 (p .nodes) (p .mappings) w n i true n in
         by (againstWrite (l .answer)) (l .work) (look-fits w o true n i leaf (omega arith))
       where
-        by : (a : Against) (v : Work) → Fits v → Goes (commitPage L (p .nodes) (p .mappings) n) (λ k i w. (i + k ≤ nodeOf (p .nodes) n .size) × Fits w) (λ r. Fits (r .state)) k a (partOf a (restBy a i (i + 1)) v)
+        by : (a : Against) (v : Work) → Fits v → Goes (commitOne L (p .nodes) (p .mappings) n) (λ k i w. (i + k ≤ nodeOf (p .nodes) n .size) × Fits w) (λ r. Fits (r .state)) k a (partOf a (restBy a i (i + 1)) v)
         by (Why r) v f = f
         by Fine v f = (omega arith, f)
 
     pub commit-fits : (first pages : ℕ) → first + pages ≤ nodeOf (p .nodes) n .size → (w : Work) → Fits w → Fits (commitRange L (p .nodes) (p .mappings) n first pages w .state)
     unfolding commitRange
     commit-fits first pages low w o =
-        each-keeps (commitPage L (p .nodes) (p .mappings) n) (λ k i w. (i + k ≤ nodeOf (p .nodes) n .size) × Fits w) (λ r. Fits (r .state)) (λ i w b. b .1) commit-turn pages first w (low, o)
+        each-keeps (commitOne L (p .nodes) (p .mappings) n) (λ k i w. (i + k ≤ nodeOf (p .nodes) n .size) × Fits w) (λ r. Fits (r .state)) (λ i w b. b .1) commit-turn pages first w (low, o)
 
     module _ (offset len : ℕ) (inside : offset + len ≤ nodeOf (p .nodes) n .size * L) where
       rest-end : (a : Against) (it next : BlockIter) → it .end ≡ offset + len → next .end ≡ it .end → restBy a it next .end ≡ offset + len

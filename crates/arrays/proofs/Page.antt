@@ -1,7 +1,7 @@
 -- commit_page keeps every array; it is refused exactly if the page is to be written and needs more frames than are free. Assumes nothing.
 use mathlib.Core.Path.{_≡_, refl, ap}
 use mathlib.Core.Bool.{Bool}
-use mathlib.Core.List.{List}
+use mathlib.Core.List.{List, []}
 use mathlib.Core.Logic.{_⊎_, inl, inr}
 use Prim.Native.Nat.{ℕ, _%_, _<_}
 use native.Mathlib.Omega.{arith}
@@ -15,15 +15,16 @@ use Rattle.lookup.specs.declared.Looked.the-variants.{Shared, Zero, Own, New, N
 use Rattle.lookup.specs.Work.{Work, workOf, lookingOf}
 use Rattle.lookup.specs.Lookup.{look}
 use Rattle.sound.specs.Facts.{Leaf}
-use Rattle.commit.specs.Noted.{Said, refusedOf}
 use Rattle.outcome.specs.Room.{roomOf}
-use Rattle.commit.specs.Commit.{pageRefusal, committed, commitAt, commitPage}
+use Rattle.outcome.specs.declared.answer.Answer.{Answer}
+use Rattle.outcome.specs.Outcome.{Outcome, refused}
+use Rattle.commit.specs.Commit.{pageRefusal, lookedOutcome, commitPageAt, commitPage}
 use Rattle.isolation.specs.Private.{Private}
 use Rattle.isolation.specs.Kept.{poolWith, workIn, Answers}
 use Rattle.isolation.proofs.Look.{look-keeps}
 use Rattle.soundness.proofs.Soundness.{facts-sound}
 use Rattle.arrays.specs.Calls.{Called, Frame, ZeroFrame, NoFrame, Page}
-use Rattle.arrays.specs.Calls.Called.{refused, accepted}
+use Rattle.arrays.specs.Calls.Called.{tested, accepted}
 use Rattle.arrays.proofs.Called.{Tests, tests-pick, called}
 use Rattle.lookups.proofs.Frames.{none-free}
 
@@ -38,7 +39,7 @@ page-tests N M list n page write =
 
 module _ (L : ℕ) (A : ℕ → ℕ → ℕ → ℕ) (p : Pool) (P : Private L A p) (list : List ℕ) (n page : ℕ) (write : Bool) where
   ends-by : (z : Looked) (w : Work) → Answers L p (toldOf list 0) n page (A n page) write z w
-      → Frame L A p n page write (committed p (lookingOf z w)) ⊎ (ZeroFrame L A p n page write (committed p (lookingOf z w)) ⊎ NoFrame p n page write (committed p (lookingOf z w)))
+      → Frame L A p n page write (lookedOutcome p (lookingOf z w)) ⊎ (ZeroFrame L A p n page write (lookedOutcome p (lookingOf z w)) ⊎ NoFrame p n page write (lookedOutcome p (lookingOf z w)))
   ends-by (Shared f) w a =
       inl (record { frame = f; answer = refl; bytes = a .bytes; enough = λ k. let q = a .taken k in omega arith; taken = a .taken; untaken = a .untaken })
   ends-by Zero w a = inr (inl (record { answer = refl; reading = a .reading; bytes = a .bytes; same = ap (poolWith p) (a .same) }))
@@ -48,7 +49,7 @@ module _ (L : ℕ) (A : ℕ → ℕ → ℕ → ℕ) (p : Pool) (P : Private L A
   ends-by Stopped w a = absurd a
 
   page-through : Leaf (p .nodes) n → page < nodeOf (p .nodes) n .size
-      → Page L A p n page write (committed p (look L 64 (p .nodes) (p .mappings) (workOf (p .pages) (p .used) (p .memory) (toldOf list 0)) n (page % 4294967296) write n))
+      → Page L A p n page write (lookedOutcome p (look L 64 (p .nodes) (p .mappings) (workOf (p .pages) (p .used) (p .memory) (toldOf list 0)) n (page % 4294967296) write n))
   page-through leaf low =
       let s = P .sound .tree .sizes n in
       let e : page % 4294967296 ≡ page = omega arith in
@@ -56,16 +57,16 @@ module _ (L : ℕ) (A : ℕ → ℕ → ℕ → ℕ) (p : Pool) (P : Private L A
       let k = look-keeps L A p P (toldOf list 0) n page write leaf low in
       rw e (record { private = k .private; stays = record { nodes = refl; mappings = refl; head = refl }; ends = ends-by (r .answer) (r .work) (k .answers) })
 
-  pub page-called : Called (refusedOf p list) (Page L A p n page write) (commitPage L p list n page write)
-  unfolding commitAt
+  pub page-called : Called (refused p list []) (Page L A p n page write) (commitPage L p list n page write)
+  unfolding commitPageAt
   page-called =
-      called (refusedOf p list) (Page L A p n page write) (page < nodeOf (p .nodes) n .size) L p n (λ m. pageRefusal (p .nodes) (p .mappings) list m page write)
-      (λ m. committed p (look L 64 (p .nodes) (p .mappings) (workOf (p .pages) (p .used) (p .memory) (toldOf list 0)) m (page % 4294967296) write m))
+      called (refused p list []) (Page L A p n page write) (page < nodeOf (p .nodes) n .size) L p n (λ m. pageRefusal (p .nodes) (p .mappings) list m page write)
+      (λ m. lookedOutcome p (look L 64 (p .nodes) (p .mappings) (workOf (p .pages) (p .used) (p .memory) (toldOf list 0)) m (page % 4294967296) write m))
       (facts-sound L p (P .sound)) (page-tests (p .nodes) (p .mappings) list n page write) page-through
 
   pub page-keeps : Private L A (commitPage L p list n page write .pool)
   page-keeps = by page-called
     where
-      by : {r : Said} → Called (refusedOf p list) (Page L A p n page write) r → Private L A (r .pool)
-      by (refused why t e) = rw e P
+      by : {r : Outcome Answer} → Called (refused p list []) (Page L A p n page write) r → Private L A (r .pool)
+      by (tested why t e) = rw e P
       by (accepted w) = w .private

@@ -23,7 +23,7 @@ use Rattle.outcome.specs.declared.answer.Against.{Against}
 use Rattle.outcome.specs.declared.answer.Against.the-variants.{Why, Nothing as Fine}
 use Rattle.outcome.specs.Room.{liveCount}
 use Rattle.page.specs.Each.{Part, partOf, onward, each}
-use Rattle.page.specs.Pages.{againstWrite, restBy, storedBy, wrotePage, writeBy, writePage, committedPage, commitPage}
+use Rattle.page.specs.Pages.{againstWrite, restBy, storedBy, wrotePage, writeBy, writePage, committedOne, commitOne}
 use Rattle.bounds.specs.Telling.{putAll}
 use Rattle.bounds.proofs.Adding.{put-both}
 use Rattle.bounds.proofs.Room.{room-enough}
@@ -112,8 +112,8 @@ module _ (L : ℕ) (p : Pool) (sound : Sound L p) (n : ℕ) (leaf : Leaf (p .nod
   unfolding writePage
   write-passes offset bytes it w = write-by offset bytes it w (nextOf L it)
 
-  pub commit-passes : (i : ℕ) (w : Work) → Passes (λ t. commitPage L (p .nodes) M n i (withTold w t)) (liveCount M)
-  unfolding commitPage committedPage
+  pub commit-passes : (i : ℕ) (w : Work) → Passes (λ t. commitOne L (p .nodes) M n i (withTold w t)) (liveCount M)
+  unfolding commitOne committedOne
   commit-passes i w =
       let s = room-enough L p sound M w n i true leaf in
       let a = againstWrite (s .answer) in
@@ -123,5 +123,5 @@ module _ (L : ℕ) (p : Pool) (sound : Sound L p) (n : ℕ) (leaf : Leaf (p .nod
         work = workOf (s .pages) (s .used) (s .memory) (w .told);
         notices = s .notices;
         few = s .few;
-        same = λ t. ap (λ (l : Looking). committedPage i l) (s .same t);
+        same = λ t. ap (λ (l : Looking). committedOne i l) (s .same t);
       }

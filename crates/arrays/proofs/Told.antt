@@ -12,7 +12,7 @@ use Rattle.logic.specs.Pick.{pick}
 use Rattle.logic.specs.declared.Found.{Found}
 use Rattle.logic.specs.declared.Found.the-variants.{At, Nothing}
 use Rattle.blocks.specs.Blocks.{iterOf, countOf}
-use Rattle.node.specs.Node.{leafOf}
+use Rattle.node.specs.Node.{leafOf, cachedOf, containsOf}
 use Rattle.tables.specs.Pool.{Pool}
 use Rattle.tables.specs.Tables.{nodeOf, freeNodeIn, freeNodeFrom}
 use Rattle.outcome.specs.declared.notice.Notice.{Notice}
@@ -27,13 +27,15 @@ use Rattle.outcome.specs.declared.answer.Refusal.{Refusal}
 use Rattle.outcome.specs.declared.answer.Against.{Against}
 use Rattle.outcome.specs.declared.answer.Against.the-variants.{Why, Nothing as Fine}
 use Rattle.outcome.specs.Answers.{unless}
-use Rattle.pool.specs.Calls.{findObject, atNode, onNode}
-use Rattle.commit.specs.Noted.{Said, refusedOf}
+use Rattle.pool.specs.Calls.{onEntered, onObject}
+use Rattle.pool.proofs.Laws.{enters}
 use Rattle.outcome.specs.Room.{liveCount, roomOf}
-use Rattle.child.specs.Child.{born, againstChild, withBoth, withChild, numbered, childAt, createChild}
+use Rattle.outcome.specs.declared.answer.Answer.{Answer}
+use Rattle.outcome.specs.Outcome.{Outcome, refused}
+use Rattle.child.specs.Child.{born, againstChild, withBoth, withChild, numberChild, childAt, createChild}
 use Rattle.page.specs.Each.{Part}
-use Rattle.page.specs.Pages.{writePage, commitPage}
-use Rattle.ranges.specs.Ranges.{Ranging, insideOf, cachedOf, refusedRange, rangedBy, workIn, againstWriting, writeRange, written, writeThrough, writeAt, write, againstCommitting, commitRange, committed, commitThrough, commitAt, commit}
+use Rattle.page.specs.Pages.{writePage, commitOne}
+use Rattle.ranges.specs.Ranges.{rangedBy, workIn, againstWriting, writeRange, written, writeThrough, writeAt, write, againstCommitting, commitRange, committed, commitThrough, commitAt, commit}
 use Rattle.bounds.specs.Telling.{putAll, Wrote, Added}
 use Rattle.bounds.specs.Calling.{NoRoomFor}
 use Rattle.bounds.proofs.Adding.{wrote-none, wrote-in, all-wrote, all-added}
@@ -46,7 +48,7 @@ use Rattle.arrays.proofs.Sending.{Passes, each-passes, write-passes, co
 added-none : (t t′ : Told) → t′ ≡ t → Added t [] t′
 added-none t t′ e = rw e (record { count = omega arith; there = λ j l. absurd (omega arith) })
 
-silent : {call : List ℕ → Said} {most : ℕ} → ((list : List ℕ) → call list .told ≡ toldOf list 0) → TellsAll call most
+silent : {call : List ℕ → Outcome Answer} {most : ℕ} → ((list : List ℕ) → call list .told ≡ toldOf list 0) → TellsAll call most
 silent {call} {most} e =
     record {
       loses-none = record { notices = []; few = omega arith; all = λ list. inr (added-none _ _ (e list)) };
@@ -55,10 +57,10 @@ silent {call} {most} e =
 
 -- a call that sends the same notices to every list with room
 
-module _ (p : Pool) (pages : ℕ) (ns : List Notice) {call : List ℕ → Said} {most : ℕ} where
+module _ (p : Pool) (pages : ℕ) (ns : List Notice) {call : List ℕ → Outcome Answer} {most : ℕ} where
   tested : most ≡ pages * liveCount (p .mappings) → length ns ≤ most
       → ((list : List ℕ) → roomOf (p .mappings) list pages ≡ true → call list .told ≡ putAll (toldOf list 0) ns)
-      → ((list : List ℕ) → roomOf (p .mappings) list pages ≡ false → call list ≡ refusedOf p list R.the-variants.NoRoom) → TellsAll call most
+      → ((list : List ℕ) → roomOf (p .mappings) list pages ≡ false → call list ≡ refused p list [] R.the-variants.NoRoom) → TellsAll call most
   unfolding roomOf
   tested m few full short =
       record {
@@ -70,7 +72,7 @@ module _ (p : Pool) (pages : ℕ) (ns : List Notice) {call : List ℕ → Said} 
       takes list true e = let l = leb-true (pages * liveCount (p .mappings)) (length list / 4) e in inr (rw (full list e) (all-added ns (toldOf list 0) (omega arith)))
       takes list false e =
           let l = leb-false (pages * liveCount (p .mappings)) (length list / 4) e in
-          inl (record { short = omega arith; answer = ap (λ (s : Said). s .answer) (short list e); told = ap (λ (s : Said). s .told) (short list e) })
+          inl (record { short = omega arith; answer = ap (λ (s : Outcome Answer). s .answer) (short list e); told = ap (λ (s : Outcome Answer). s .told) (short list e) })
 
       writes : (list : List ℕ) (b : Bool) → roomOf (p .mappings) list pages ≡ b → Wrote (toldOf list 0) most (call list .told)
       writes list true e = rw (full list e) (wrote-in few (all-wrote ns (toldOf list 0)))
@@ -78,18 +80,12 @@ module _ (p : Pool) (pages : ℕ) (ns : List Notice) {call : List ℕ → Said} 
 
 -- a call on an object
 
-module _ {A : Type 0} (said : A → Said) (refuse : List ℕ → Refusal → A) (quiet : (list : List ℕ) (r : Refusal) → said (refuse list r) .told ≡ toldOf list 0) where
-  on-object : (L : ℕ) (p : Pool) (object : ℕ) {most : ℕ} (does : List ℕ → ℕ → A) → (Sound L p → Leaf (p .nodes) object → TellsAll (λ list. said (does list object)) most)
-      → TellsAll (λ list. said (onNode L p object (refuse list) (does list))) most
-  unfolding onNode findObject atNode
-  on-object L p object {most} does go = by (sound L p) refl (ltb object 64) (leafOf (nodeOf (p .nodes) object)) refl
-    where
-      by : (s : Bool) → sound L p ≡ s → (a b : Bool) → leafOf (nodeOf (p .nodes) object) ≡ b
-          → TellsAll (λ list. said (pick s (atNode (refuse list) (does list) (pick a (pick b (At object) Nothing) Nothing)) (refuse list R.the-variants.BadPool))) most
-      by false h a b e = silent (λ list. quiet list R.the-variants.BadPool)
-      by true h true true e = go (sound-facts L p h) e
-      by true h true false e = silent (λ list. quiet list R.the-variants.NoObject)
-      by true h false b e = silent (λ list. quiet list R.the-variants.NoObject)
+object-told : (L : ℕ) (p : Pool) (object : ℕ) {most : ℕ} (does : List ℕ → ℕ → Outcome Answer) → (Sound L p → Leaf (p .nodes) object → TellsAll (λ list. does list object) most)
+    → TellsAll (λ list. onObject L p object (refused p list []) (does list)) most
+unfolding onObject onEntered
+object-told L p object {most} does go =
+    enters (λ e. TellsAll (λ list. onEntered (refused p list []) (does list) e) most) L p object
+    (λ s. silent (λ list. refl)) (silent (λ list. refl)) (λ s l leaf. go (sound-facts L p s) leaf)
 
 -- create_child
 
@@ -106,22 +102,22 @@ module _ (p : Pool) (n first pages : ℕ) where
   child-told (At child) = both-told child (freeNodeFrom (p .nodes) (child + 1))
   child-told Nothing = silent (λ list. refl)
 
-  numbered-told : TellsAll (λ list. numbered p list n first pages) (liveCount (p .mappings))
-  unfolding numbered
+  numbered-told : TellsAll (λ list. numberChild p list n first pages) (liveCount (p .mappings))
+  unfolding numberChild
   numbered-told = by (leb (getD (p .head) 0 0) 16777215)
     where
-      by : (b : Bool) → TellsAll (λ list. pick b (withChild p list n first pages (freeNodeIn (p .nodes))) (refusedOf p list R.the-variants.NoNode)) (liveCount (p .mappings))
+      by : (b : Bool) → TellsAll (λ list. pick b (withChild p list n first pages (freeNodeIn (p .nodes))) (refused p list [] R.the-variants.NoNode)) (liveCount (p .mappings))
       by true = child-told (freeNodeIn (p .nodes))
       by false = silent (λ list. refl)
 
-unless-told : {most : ℕ} (p : Pool) (a : Against) (go : List ℕ → Said) → TellsAll go most → TellsAll (λ list. unless a (refusedOf p list) (go list)) most
+unless-told : {most : ℕ} (p : Pool) (a : Against) (go : List ℕ → Outcome Answer) → TellsAll go most → TellsAll (λ list. unless a (refused p list []) (go list)) most
 unless-told p (Why r) go t = silent (λ list. refl)
 unless-told p Fine go t = t
 
 pub child-loses-none : (L : ℕ) (p : Pool) (object offset len : ℕ) → TellsAll (λ list. createChild L p list object offset len) (liveCount (p .mappings))
 unfolding childAt
 child-loses-none L p object offset len =
-    on-object (λ s. s) (refusedOf p) (λ list r. refl) L p object (λ list n. childAt L p list n offset len)
+    object-told L p object (λ list n. childAt L p list n offset len)
     (λ s l. unless-told p (againstChild L (nodeOf (p .nodes) object) offset len) _ (numbered-told p object (offset / L) (len / L)))
 
 -- write and commit: the tests before the room don't depend on the list
@@ -132,36 +128,36 @@ Most p pages = pages * liveCount (p .mappings)
 abbrev Room : Pool → ℕ → List ℕ → Against
 Room p pages list = pick (roomOf (p .mappings) list pages) Fine (Why R.the-variants.NoRoom)
 
-module _ (p : Pool) (pages : ℕ) {C : Type 0} (range : Work → Part C Work) (go : List ℕ → Ranging) where
-  inside-told : ((list : List ℕ) → go list .said .told ≡ range (workIn p list) .state .told) → (b : Bool) (why : Refusal) → Passes (λ t. range (withTold (workIn p []) t)) (Most p pages)
-      → TellsAll (λ list. unless (pick b (Room p pages list) (Why why)) (refusedRange p list) (go list) .said) (Most p pages)
+module _ (p : Pool) (pages : ℕ) {C : Type 0} (range : Work → Part C Work) (go : List ℕ → Outcome Answer) where
+  inside-told : ((list : List ℕ) → go list .told ≡ range (workIn p list) .state .told) → (b : Bool) (why : Refusal) → Passes (λ t. range (withTold (workIn p []) t)) (Most p pages)
+      → TellsAll (λ list. unless (pick b (Room p pages list) (Why why)) (refused p list []) (go list)) (Most p pages)
   inside-told same true why s =
       tested p pages (s .notices) refl (s .few)
       (λ list r. rw r (same list ∙ ap (λ (x : Part C Work). x .state .told) (s .same (toldOf list 0)))) (λ list r. rw r refl)
   inside-told same false why s = silent (λ list. refl)
 
 pub write-loses-none : (L : ℕ) (p : Pool) (object offset : ℕ) (bytes : List ℕ)
-    → TellsAll (λ list. write L p list object offset bytes .said) (countOf L (iterOf offset (offset + length bytes)) * liveCount (p .mappings))
+    → TellsAll (λ list. write L p list object offset bytes ) (countOf L (iterOf offset (offset + length bytes)) * liveCount (p .mappings))
 unfolding writeAt againstWriting writeThrough writeRange written rangedBy
 write-loses-none L p object offset bytes =
-    on-object (λ r. r .said) (refusedRange p) (λ list r. refl) L p object (λ list n. writeAt L p list n offset bytes) (λ s l. by s l (cachedOf (p .nodes) object))
+    object-told L p object (λ list n. writeAt L p list n offset bytes) (λ s l. by s l (cachedOf (nodeOf (p .nodes) object)))
   where
     k : ℕ
     k = countOf L (iterOf offset (offset + length bytes))
 
     by : Sound L p → Leaf (p .nodes) object → (c : Bool)
-        → TellsAll (λ list. unless (pick c (pick (insideOf L (p .nodes) object offset (length bytes)) (Room p k list) (Why R.the-variants.OutOfRange)) (Why R.the-variants.BadState)) (refusedRange p list) (writeThrough L p list object offset bytes) .said) (k * liveCount (p .mappings))
+        → TellsAll (λ list. unless (pick c (pick (containsOf L (nodeOf (p .nodes) object) offset (length bytes)) (Room p k list) (Why R.the-variants.OutOfRange)) (Why R.the-variants.BadState)) (refused p list []) (writeThrough L p list object offset bytes)) (k * liveCount (p .mappings))
     by s l true =
         inside-told p k (writeRange L (p .nodes) (p .mappings) object offset bytes) (λ list. writeThrough L p list object offset bytes) (λ list. refl)
-        (insideOf L (p .nodes) object offset (length bytes)) R.the-variants.OutOfRange
+        (containsOf L (nodeOf (p .nodes) object) offset (length bytes)) R.the-variants.OutOfRange
         (each-passes (writePage L (p .nodes) (p .mappings) object offset bytes) (liveCount (p .mappings)) (write-passes L p s object l (p .mappings) offset bytes) k (iterOf offset (offset + length bytes)) (workIn p []))
     by s l false = silent (λ list. refl)
 
-pub commit-range-loses-none : (L : ℕ) (p : Pool) (object offset len : ℕ) → TellsAll (λ list. commit L p list object offset len .said) (len / L * liveCount (p .mappings))
+pub commit-range-loses-none : (L : ℕ) (p : Pool) (object offset len : ℕ) → TellsAll (λ list. commit L p list object offset len ) (len / L * liveCount (p .mappings))
 unfolding commitAt againstCommitting commitThrough commitRange committed rangedBy
 commit-range-loses-none L p object offset len =
-    on-object (λ r. r .said) (refusedRange p) (λ list r. refl) L p object (λ list n. commitAt L p list n offset len)
+    object-told L p object (λ list n. commitAt L p list n offset len)
     (λ s l.
     inside-told p (len / L) (commitRange L (p .nodes) (p .mappings) object (offset / L) (len / L)) (λ list. commitThrough L p list object offset len) (λ list. refl)
-    (insideOf L (p .nodes) object offset len) R.the-variants.OutOfRange
-    (each-passes (commitPage L (p .nodes) (p .mappings) object) (liveCount (p .mappings)) (commit-passes L p s object l (p .mappings)) (len / L) (offset / L) (workIn p [])))
+    (containsOf L (nodeOf (p .nodes) object) offset len) R.the-variants.OutOfRange
+    (each-passes (commitOne L (p .nodes) (p .mappings) object) (liveCount (p .mappings)) (commit-passes L p s object l (p .mappings)) (len / L) (offset / L) (workIn p [])))

@@ -9,7 +9,8 @@ use Rattle.frames.specs.Frames.{freeCount}
 use Rattle.outcome.specs.declared.answer.Answer.the-variants.{Done, Refused}
 use Rattle.outcome.specs.declared.answer.Refusal.{Refusal}
 use Rattle.outcome.specs.declared.answer.Refusal.the-variants.{OutOfRange, BadState, InvalidArgs, NoMemory, NotSupported, Unavailable, BadPool, NoObject, NoNode, NoRoom, Stopped, PinLedger}
-use Rattle.commit.specs.Noted.{Said}
+use Rattle.outcome.specs.declared.answer.Answer.{Answer}
+use Rattle.outcome.specs.Outcome.{Outcome}
 use Rattle.isolation.specs.Private.{Private}
 use Rattle.isolation.specs.Need.{need}
 use Rattle.arrays.specs.Outcomes.{Stays}
@@ -31,11 +32,11 @@ ByTests PinLedger = ⊥
 
 -- the call's tests refused it, which leaves all as it was, or it did what W says
 pub data Called {R : Type 0} (refuse : Refusal → R) (W : R → Type 0) (r : R) : Type 0 where
-  refused : (why : Refusal) → ByTests why → r ≡ refuse why → Called refuse W r
+  tested : (why : Refusal) → ByTests why → r ≡ refuse why → Called refuse W r
   accepted : W r → Called refuse W r
 
 -- commit_page gives a frame with the page's bytes; for writing as many frames were taken as the page needs, for reading none
-pub record Frame (L : ℕ) (A : ℕ → ℕ → ℕ → ℕ) (p : Pool) (n page : ℕ) (write : Bool) (r : Said) : Type 0 where
+pub record Frame (L : ℕ) (A : ℕ → ℕ → ℕ → ℕ) (p : Pool) (n page : ℕ) (write : Bool) (r : Outcome Answer) : Type 0 where
   pub frame : ℕ
   pub answer : r .answer ≡ Done frame
   pub bytes : (k : ℕ) → k < L → getD (r .pool .memory) (frame * L + k) 0 ≡ A n page k
@@ -44,20 +45,20 @@ pub record Frame (L : ℕ) (A : ℕ → ℕ → ℕ → ℕ) (p : Pool) (n page 
   pub untaken : write ≡ false → r .pool .used ≡ p .used
 
 -- for reading it may give the shared zero frame, and change nothing
-pub record ZeroFrame (L : ℕ) (A : ℕ → ℕ → ℕ → ℕ) (p : Pool) (n page : ℕ) (write : Bool) (r : Said) : Type 0 where
+pub record ZeroFrame (L : ℕ) (A : ℕ → ℕ → ℕ → ℕ) (p : Pool) (n page : ℕ) (write : Bool) (r : Outcome Answer) : Type 0 where
   pub answer : r .answer ≡ Done 4294967295
   pub reading : write ≡ false
   pub bytes : (k : ℕ) → k < L → A n page k ≡ 0
   pub same : r .pool ≡ p
 
 -- for writing there may be too few frames: then all are taken
-pub record NoFrame (p : Pool) (n page : ℕ) (write : Bool) (r : Said) : Type 0 where
+pub record NoFrame (p : Pool) (n page : ℕ) (write : Bool) (r : Outcome Answer) : Type 0 where
   pub answer : r .answer ≡ Refused NoMemory
   pub writing : write ≡ true
   pub short : freeCount (p .used) < need (p .nodes) (p .pages) n page
   pub none : freeCount (r .pool .used) ≡ 0
 
-pub record Page (L : ℕ) (A : ℕ → ℕ → ℕ → ℕ) (p : Pool) (n page : ℕ) (write : Bool) (r : Said) : Type 0 where
+pub record Page (L : ℕ) (A : ℕ → ℕ → ℕ → ℕ) (p : Pool) (n page : ℕ) (write : Bool) (r : Outcome Answer) : Type 0 where
   pub private : Private L A (r .pool)
   pub stays : Stays p (r .pool)
   pub ends : Frame L A p n page write r ⊎ (ZeroFrame L A p n page write r ⊎ NoFrame p n page write r)

@@ -1,7 +1,7 @@
 -- The steps of create_child: refused they leave the pool, done they give birth. Assumes nothing.
 use mathlib.Core.Path.{_≡_, refl}
 use mathlib.Core.Bool.{Bool, true, false}
-use mathlib.Core.List.{List}
+use mathlib.Core.List.{List, []}
 use Prim.Native.Nat.{ℕ, _+_, _/_, _≤_}
 use native.Mathlib.Omega.{arith}
 use lib.Dec.{leb}
@@ -16,9 +16,10 @@ use Rattle.outcome.specs.declared.answer.Refusal as R
 use Rattle.outcome.specs.declared.answer.Against.{Against}
 use Rattle.outcome.specs.declared.answer.Against.the-variants.{Why, Nothing as Fine}
 use Rattle.outcome.specs.Answers.{unless}
-use Rattle.commit.specs.Noted.{Said, refusedOf}
 use Rattle.outcome.specs.Room.{roomOf}
-use Rattle.child.specs.Child.{born, againstChild, withBoth, withChild, numbered, childAt}
+use Rattle.outcome.specs.declared.answer.Answer.{Answer}
+use Rattle.outcome.specs.Outcome.{Outcome, refused}
+use Rattle.child.specs.Child.{birthBy, born, againstChild, withBoth, withChild, numberChild, childAt}
 use Rattle.sound.specs.Facts.{Leaf, Sound}
 use Rattle.isolation.specs.Private.{Private}
 use Rattle.births.specs.Births.{Gave, CloneBorn}
@@ -43,13 +44,13 @@ module _ (L : ℕ) (p : Pool) (list : List ℕ) (S : Sound L p) (n first pages :
       }
 
   -- what holds of the pool with its refusals, and of each birth, holds of the step
-  module _ (B : Said → Type 0) (stay : (r : R.Refusal) → B (refusedOf p list r))
-      (birth : (c x : ℕ) → getD (p .head) 0 0 ≤ 16777215 → Granted (p .nodes) n x c first pages → B (born p list n c x first pages)) where
+  module _ (B : Outcome Answer → Type 0) (stay : (r : R.Refusal) → B (refused p list [] r))
+      (birth : (c x : ℕ) → getD (p .head) 0 0 ≤ 16777215 → Granted (p .nodes) n x c first pages → B (born p list (birthBy n c x first pages))) where
     both-by : (c : ℕ) → getD (p .head) 0 0 ≤ 16777215 → Free (p .nodes) 0 c → (f : Found) → freeNodeFrom (p .nodes) (c + 1) ≡ f → B (withBoth p list n first pages c f)
     unfolding withBoth
     both-by c l h (At x) e = by (roomOf (p .mappings) list 1)
       where
-        by : (b : Bool) → B (pick b (born p list n c x first pages) (refusedOf p list R.the-variants.NoRoom))
+        by : (b : Bool) → B (pick b (born p list (birthBy n c x first pages)) (refused p list [] R.the-variants.NoRoom))
         by true = let k = h .low in birth c x l (granted c x h (found-from (p .nodes) (S .lengths .nodes) (c + 1) x (omega arith) e))
         by false = stay R.the-variants.NoRoom
     both-by c l h Nothing e = stay R.the-variants.NoNode
@@ -59,39 +60,39 @@ module _ (L : ℕ) (p : Pool) (list : List ℕ) (S : Sound L p) (n first pages :
     child-by l (At c) e = both-by c l (found-free (p .nodes) (S .lengths .nodes) c e) (freeNodeFrom (p .nodes) (c + 1)) refl
     child-by l Nothing e = stay R.the-variants.NoNode
 
-    pub numbered-by : B (numbered p list n first pages)
-    unfolding numbered
+    pub numbered-by : B (numberChild p list n first pages)
+    unfolding numberChild
     numbered-by = by (leb (getD (p .head) 0 0) 16777215) refl
       where
-        by : (b : Bool) → leb (getD (p .head) 0 0) 16777215 ≡ b → B (pick b (withChild p list n first pages (freeNodeIn (p .nodes))) (refusedOf p list R.the-variants.NoNode))
+        by : (b : Bool) → leb (getD (p .head) 0 0) 16777215 ≡ b → B (pick b (withChild p list n first pages (freeNodeIn (p .nodes))) (refused p list [] R.the-variants.NoNode))
         by true t = child-by (leb-true (getD (p .head) 0 0) 16777215 t) (freeNodeIn (p .nodes)) refl
         by false t = stay R.the-variants.NoNode
 
 module _ (L : ℕ) (p : Pool) (list : List ℕ) (n first pages : ℕ) (leaf : Leaf (p .nodes) n) (fits : first + pages ≤ nodeOf (p .nodes) n .size) (unpinned : nodeOf (p .nodes) n .«pin_count» ≡ 0) where
-  birth-facts : Sound L p → (c x : ℕ) → getD (p .head) 0 0 ≤ 16777215 → Granted (p .nodes) n x c first pages → Sound L (born p list n c x first pages .pool)
+  birth-facts : Sound L p → (c x : ℕ) → getD (p .head) 0 0 ≤ 16777215 → Granted (p .nodes) n x c first pages → Sound L (born p list (birthBy n c x first pages) .pool)
   unfolding born
   birth-facts S c x l g = born-sound L p n x c first pages g unpinned l S
 
-  pub numbered-facts : Sound L p → Sound L (numbered p list n first pages .pool)
+  pub numbered-facts : Sound L p → Sound L (numberChild p list n first pages .pool)
   numbered-facts S = numbered-by L p list S n first pages leaf fits (λ s. Sound L (s .pool)) (λ r. S) (birth-facts S)
 
-  birth-left : Sound L p → (c x : ℕ) → getD (p .head) 0 0 ≤ 16777215 → Granted (p .nodes) n x c first pages → Gave p (λ i q. Sound L q) (born p list n c x first pages .answer) (born p list n c x first pages .pool)
+  birth-left : Sound L p → (c x : ℕ) → getD (p .head) 0 0 ≤ 16777215 → Granted (p .nodes) n x c first pages → Gave p (λ i q. Sound L q) (born p list (birthBy n c x first pages) .answer) (born p list (birthBy n c x first pages) .pool)
   unfolding born
   birth-left S c x l g = born-sound L p n x c first pages g unpinned l S
 
   -- refused, it leaves the pool as it was
-  pub numbered-left : Sound L p → Gave p (λ i q. Sound L q) (numbered p list n first pages .answer) (numbered p list n first pages .pool)
+  pub numbered-left : Sound L p → Gave p (λ i q. Sound L q) (numberChild p list n first pages .answer) (numberChild p list n first pages .pool)
   numbered-left S = numbered-by L p list S n first pages leaf fits (λ s. Gave p (λ i q. Sound L q) (s .answer) (s .pool)) (λ r. refl) (birth-left S)
 
   module _ (A : ℕ → ℕ → ℕ → ℕ) where
-    abbrev Goes : Said → Type 0
+    abbrev Goes : Outcome Answer → Type 0
     Goes s = Gave p (CloneBorn L A p n first pages) (s .answer) (s .pool)
 
-    birth-gave : Private L A p → (c x : ℕ) → getD (p .head) 0 0 ≤ 16777215 → Granted (p .nodes) n x c first pages → Goes (born p list n c x first pages)
+    birth-gave : Private L A p → (c x : ℕ) → getD (p .head) 0 0 ≤ 16777215 → Granted (p .nodes) n x c first pages → Goes (born p list (birthBy n c x first pages))
     unfolding born
     birth-gave Q c x l g = born-private L p n x c first pages g unpinned l A Q
 
-    pub numbered-gave : Private L A p → Goes (numbered p list n first pages)
+    pub numbered-gave : Private L A p → Goes (numberChild p list n first pages)
     numbered-gave Q = numbered-by L p list (Q .sound) n first pages leaf fits Goes (λ r. refl) (birth-gave Q)
 
 -- and with the tests before them
@@ -100,8 +101,8 @@ module _ (L : ℕ) (p : Pool) (list : List ℕ) (n offset len : ℕ) (leaf : Lea
   abbrev against : Against
   against = againstChild L (nodeOf (p .nodes) n) offset len
 
-  tested-by : (B : Said → Type 0) → ((r : R.Refusal) → B (refusedOf p list r)) → (Allows L (nodeOf (p .nodes) n) offset len → B (numbered p list n (offset / L) (len / L)))
-      → (a : Against) → against ≡ a → B (unless a (refusedOf p list) (numbered p list n (offset / L) (len / L)))
+  tested-by : (B : Outcome Answer → Type 0) → ((r : R.Refusal) → B (refused p list [] r)) → (Allows L (nodeOf (p .nodes) n) offset len → B (numberChild p list n (offset / L) (len / L)))
+      → (a : Against) → against ≡ a → B (unless a (refused p list []) (numberChild p list n (offset / L) (len / L)))
   tested-by B stay go (Why r) e = stay r
   tested-by B stay go Fine e = go (allows L (nodeOf (p .nodes) n) offset len e)
 

@@ -13,7 +13,7 @@ use Rattle.tables.specs.Pool.{Pool, poolOf}
 use Rattle.tables.specs.Tables.{nodeOf, slotAt, rowMoved}
 use Rattle.sound.specs.Facts.{Tree, Sound}
 use Rattle.soundness.proofs.Records.{node-out}
-use Rattle.child.specs.Child.{bornNodes}
+use Rattle.child.specs.Child.{birthBy, bornNodes}
 use Rattle.births.proofs.Cloned.{Cloned, leaf-live}
 use Rattle.births.proofs.Growth.{born-tree}
 use Rattle.births.proofs.Handed.{RowMoved, slots-rest, born-entries, born-mappings}
@@ -22,7 +22,7 @@ use Rattle.births.proofs.Moved.{row-moved, row-length}
 
 abbrev pub bornPool : Pool → ℕ → ℕ → ℕ → ℕ → ℕ → Pool
 bornPool p n c x first pages =
-    poolOf (bornNodes (p .nodes) n c x first pages (getD (p .head) 0 0)) (rowMoved (p .pages) n x) (p .used) (p .mappings)
+    poolOf (bornNodes (p .nodes) (birthBy n c x first pages) (getD (p .head) 0 0)) (rowMoved (p .pages) n x) (p .used) (p .mappings)
     (set (p .head) 0 (getD (p .head) 0 0 + 1)) (p .memory)
 
 module _ (L : ℕ) (p : Pool) (n x c first pages : ℕ) (g : Granted (p .nodes) n x c first pages) (unpinned : nodeOf (p .nodes) n .«pin_count» ≡ 0)
@@ -34,7 +34,7 @@ module _ (L : ℕ) (p : Pool) (n x c first pages : ℕ) (g : Granted (p .nodes) 
   next = getD (p .head) 0 0
 
   abbrev N′ : List ℕ
-  N′ = bornNodes N n c x first pages next
+  N′ = bornNodes N (birthBy n c x first pages) next
 
   abbrev P′ : List ℕ
   P′ = rowMoved (p .pages) n x

@@ -11,6 +11,7 @@ use Rattle.logic.proofs.Laws.{and-left, and-right}
 use Rattle.logic.proofs.Means.{most, split}
 use Rattle.blocks.specs.Blocks.{alignedOf}
 use Rattle.node.specs.declared.Node.{Node}
+use Rattle.node.specs.Node.{cachedOf, containsOf}
 use Rattle.outcome.specs.declared.answer.Against.the-variants.{Why, Nothing as Fine}
 use Rattle.outcome.specs.declared.answer.Refusal as R
 use Rattle.child.specs.Child.{againstChild}
@@ -38,21 +39,21 @@ why-not : {A : Type 0} {r : R.Refusal} → Why r ≡ Fine → A
 why-not e = let z : _≡_ {A = ℕ} 0 1 = cc in absurd (omega arith)
 
 allows-by : (L : ℕ) (r : Node) (offset len : ℕ) (a b c : Bool)
-    → (alignedOf L offset && alignedOf L len && leb len (64 * L)) ≡ a → (eqb (r .«cache_policy») 0 && eqb (r .«pin_count») 0) ≡ b → leb (offset + len) (r .size * L) ≡ c
+    → (alignedOf L offset && alignedOf L len && leb len (64 * L)) ≡ a → (cachedOf r && eqb (r .«pin_count») 0) ≡ b → leb (offset + len) (r .size * L) ≡ c
     → pick a (pick b (pick c Fine (Why R.the-variants.OutOfRange)) (Why R.the-variants.BadState)) (Why R.the-variants.InvalidArgs) ≡ Fine → Allows L r offset len
 allows-by L r offset len true true true x y z e =
     let w = and-left (alignedOf L offset && alignedOf L len) (leb len (64 * L)) x in
     record {
       fits = pages-fit L offset len (r .size) (eqb-true (offset % L) 0 (and-left (alignedOf L offset) (alignedOf L len) w))
           (eqb-true (len % L) 0 (and-right (alignedOf L offset) (alignedOf L len) w)) (leb-true (offset + len) (r .size * L) z);
-      unpinned = eqb-true (r .«pin_count») 0 (and-right (eqb (r .«cache_policy») 0) (eqb (r .«pin_count») 0) y);
+      unpinned = eqb-true (r .«pin_count») 0 (and-right (cachedOf r) (eqb (r .«pin_count») 0) y);
     }
 allows-by L r offset len true true false x y z e = why-not e
 allows-by L r offset len true false c x y z e = why-not e
 allows-by L r offset len false b c x y z e = why-not e
 
 pub allows : (L : ℕ) (r : Node) (offset len : ℕ) → againstChild L r offset len ≡ Fine → Allows L r offset len
-unfolding againstChild
+unfolding againstChild containsOf
 allows L r offset len e =
-    allows-by L r offset len (alignedOf L offset && alignedOf L len && leb len (64 * L)) (eqb (r .«cache_policy») 0 && eqb (r .«pin_count») 0)
+    allows-by L r offset len (alignedOf L offset && alignedOf L len && leb len (64 * L)) (cachedOf r && eqb (r .«pin_count») 0)
     (leb (offset + len) (r .size * L)) refl refl refl e

@@ -1,7 +1,7 @@
 -- new: the pool stays sound, the new object reads zeros, and every other object what it read. Assumes nothing.
 use mathlib.Core.Path.{_≡_, refl, sym, _∙_, subst}
 use mathlib.Core.Bool.{Bool, true, false}
-use mathlib.Core.List.{List}
+use mathlib.Core.List.{List, []}
 use Prim.Native.Nat.{ℕ, _+_, _≤_}
 use native.Mathlib.Omega.{arith}
 use lib.Dec.{leb}
@@ -20,7 +20,9 @@ use Rattle.tables.specs.Pool.{Pool, poolOf}
 use Rattle.tables.specs.Tables.{withNode, slotAt, freeNodeIn}
 use Rattle.sound.specs.Facts.{Sound}
 use Rattle.outcome.specs.declared.answer.Refusal.the-variants.{NoNode}
-use Rattle.pool.specs.Calls.{Call, refused, leafAt, newLeaf}
+use Rattle.outcome.specs.declared.answer.Answer.{Answer}
+use Rattle.outcome.specs.Outcome.{Outcome, refused}
+use Rattle.pool.specs.Calls.{leafAt, newLeaf}
 use Rattle.isolation.specs.Walk.{Near, View}
 use Rattle.isolation.specs.Walk.Near.{none, here, up}
 use Rattle.isolation.specs.Walk.View.{own, above}
@@ -141,7 +143,7 @@ module _ (L : ℕ) (p : Pool) (size i : ℕ) (small : size ≤ 64) (more : getD 
 
 -- the step of new
 
-module _ (p : Pool) (size : ℕ) (len : length (p .nodes) ≡ 1024) (B : Call → Type 0) (stay : B (refused NoNode p))
+module _ (p : Pool) (size : ℕ) (len : length (p .nodes) ≡ 1024) (B : Outcome Answer → Type 0) (stay : B (refused p [] [] NoNode))
     (birth : (i : ℕ) → getD (p .head) 0 0 ≤ 16777215 → Free (p .nodes) 0 i → B (leafAt p size (At i))) where
   leaf-by : getD (p .head) 0 0 ≤ 16777215 → (f : Found) → freeNodeIn (p .nodes) ≡ f → B (leafAt p size f)
   unfolding leafAt
@@ -153,7 +155,7 @@ module _ (p : Pool) (size : ℕ) (len : length (p .nodes) ≡ 1024) (B : Call �
   unfolding newLeaf
   new-by = by (leb (getD (p .head) 0 0) 16777215) refl
     where
-      by : (b : Bool) → leb (getD (p .head) 0 0) 16777215 ≡ b → B (pick b (leafAt p size (freeNodeIn (p .nodes))) (refused NoNode p))
+      by : (b : Bool) → leb (getD (p .head) 0 0) 16777215 ≡ b → B (pick b (leafAt p size (freeNodeIn (p .nodes))) (refused p [] [] NoNode))
       by true t = leaf-by (leb-true (getD (p .head) 0 0) 16777215 t) (freeNodeIn (p .nodes)) refl
       by false t = stay
 

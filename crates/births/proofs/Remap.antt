@@ -1,7 +1,7 @@
 -- append_mapping and remove_mapping keep pools sound and every object's array: they change the list of mappings alone. Assumes nothing.
 use mathlib.Core.Path.{_≡_, refl}
 use mathlib.Core.Bool.{Bool, true, false, _&&_}
-use mathlib.Core.List.{List}
+use mathlib.Core.List.{List, []}
 use Prim.Native.Nat.{ℕ, _+_}
 use lib.Dec.{leb, ltb}
 use borrow.Author.Tests.{leb-true}
@@ -10,9 +10,10 @@ use Rattle.logic.proofs.Laws.{and-left, and-right}
 use Rattle.tables.specs.Pool.{Pool}
 use Rattle.mappings.specs.Mappings.{append, removed}
 use Rattle.outcome.specs.declared.answer.Answer.the-variants.{Done}
-use Rattle.pool.specs.Calls.{callOf}
-use Rattle.mapped.specs.declared.Shown.the-variants.{Pages, Bad}
-use Rattle.mapped.specs.Mapped.{withMappings, shownOf, appendBy, appendAt, removeAt}
+use Rattle.outcome.specs.declared.answer.Refusal.the-variants.{InvalidArgs}
+use Rattle.outcome.specs.Outcome.{refused}
+use Rattle.pool.specs.Calls.{saying}
+use Rattle.mapped.specs.Mapped.{withMappings, showsOf, appended, appendAt, removeAt}
 use Rattle.sound.specs.Facts.{Leaf, Sound}
 use Rattle.isolation.specs.Private.{Private}
 use Rattle.births.proofs.Listed.{Listing, append-listing, removed-listing}
@@ -63,10 +64,10 @@ module _ (L : ℕ) (p : Pool) (S : Sound L p) where
   unlisted = record { list = p .mappings; same = refl; listing = ok }
 
   pub append-relists : (n first count : ℕ) → Leaf (p .nodes) n → Relisted p (appendAt p n first count .pool)
-  unfolding appendAt appendBy shownOf
+  unfolding appendAt showsOf
   append-relists n first count leaf = by (leb 1 count && leb (first + count) 64) refl
     where
-      by : (b : Bool) → (leb 1 count && leb (first + count) 64) ≡ b → Relisted p (appendBy p n (pick b (Pages first count) Bad) .pool)
+      by : (b : Bool) → (leb 1 count && leb (first + count) 64) ≡ b → Relisted p (pick b (appended p (append (p .mappings) n first count)) (refused p [] [] InvalidArgs) .pool)
       by true t =
           record {
             list = append (p .mappings) n first count .mappings;
@@ -80,7 +81,7 @@ module _ (L : ℕ) (p : Pool) (S : Sound L p) where
   unfolding removeAt
   remove-relists n mapping = by (ltb mapping 64)
     where
-      by : (b : Bool) → Relisted p (pick b (callOf (Done 0) (withMappings p (removed (p .mappings) n mapping))) (callOf (Done 0) p) .pool)
+      by : (b : Bool) → Relisted p (pick b (saying (Done 0) (withMappings p (removed (p .mappings) n mapping))) (saying (Done 0) p) .pool)
       by true = record { list = removed (p .mappings) n mapping; same = refl; listing = removed-listing (p .nodes) (p .mappings) ok n mapping }
       by false = unlisted
 

@@ -10,7 +10,7 @@ use Rattle.node.specs.Node.{leafOf}
 use Rattle.tables.specs.Pool.{Pool}
 use Rattle.tables.specs.Tables.{nodeOf, slotAt, rowMoved}
 use Rattle.sound.specs.Facts.{Leaf, Tree, Sound}
-use Rattle.child.specs.Child.{bornNodes}
+use Rattle.child.specs.Child.{birthBy, bornNodes}
 use Rattle.isolation.specs.Private.{linksOf, Shows, Private}
 use Rattle.isolation.proofs.Look.{ground}
 use Rattle.births.specs.Arrays.{cloneArray}
@@ -34,7 +34,7 @@ module _ (L : ℕ) (p : Pool) (n x c first pages : ℕ) (g : Granted (p .nodes) 
   M = p .nodes
 
   abbrev M′ : List ℕ
-  M′ = bornNodes M n c x first pages (getD (p .head) 0 0)
+  M′ = bornNodes M (birthBy n c x first pages) (getD (p .head) 0 0)
 
   abbrev E : ℕ → ℕ → Slot
   E = slotAt (p .pages)

@@ -14,7 +14,7 @@ use Rattle.node.specs.Node.{nodeBy}
 use Rattle.tables.specs.Tables.{nodeOf, withNode}
 use Rattle.sound.specs.Facts.{Live, Hidden, Leaf, Tree}
 use Rattle.soundness.proofs.Records.{node-out}
-use Rattle.child.specs.Child.{relinked, bornNodes}
+use Rattle.child.specs.Child.{birthBy, relinked, bornNodes}
 use Rattle.births.proofs.Words.{node-length, node-same, node-away}
 use Rattle.births.proofs.Cloned.{Old, Relinks, Cloned, aboveNode, underNode, childNode, leaf-live}
 use Rattle.births.proofs.Relinked.{movedNode, relinks-moved, relinks-same}
@@ -59,7 +59,7 @@ module _ (N : List ℕ) (len : length N ≡ 1024) (n x c first pages owner next 
   unfolding relinked
   len₃ = pick-length (eqb par 0) (movedNode (nodeOf N₂ (par - 1)) n x)
 
-  pub born-length : length (bornNodes N n c x first pages owner) ≡ 1024
+  pub born-length : length (bornNodes N (birthBy n c x first pages) owner) ≡ 1024
   unfolding bornNodes
   born-length = node-length N₃ n (underNode (nodeOf N n) x) ∙ len₃
 
@@ -96,11 +96,11 @@ module _ (N : List ℕ) (len : length N ≡ 1024) (n x c first pages owner next 
   free-three : (m : ℕ) → nodeOf N m .kind ≡ 0 → par ≡ m + 1 → ⊥
   free-three m z e = let h = t .parents n m e .0 in omega arith
 
-  at-x : nodeOf (bornNodes N n c x first pages owner) x ≡ aboveNode (nodeOf N n) n c
+  at-x : nodeOf (bornNodes N (birthBy n c x first pages) owner) x ≡ aboveNode (nodeOf N n) n c
   unfolding bornNodes
   at-x = node-away N₃ n x (underNode (nodeOf N n) x) x-n ∙ away-three x (free-three x (g .x-free)) ∙ node-same N₁ x (aboveNode (nodeOf N n) n c) len₁ (g .x-low)
 
-  at-c : nodeOf (bornNodes N n c x first pages owner) c ≡ childNode x first pages owner
+  at-c : nodeOf (bornNodes N (birthBy n c x first pages) owner) c ≡ childNode x first pages owner
   unfolding bornNodes
   at-c =
       let f = g .fits in
@@ -108,7 +108,7 @@ module _ (N : List ℕ) (len : length N ≡ 1024) (n x c first pages owner next 
       node-away N₃ n c (underNode (nodeOf N n) x) c-n ∙ away-three c (free-three c (g .c-free)) ∙ node-away N₁ x c (aboveNode (nodeOf N n) n c) (λ q. g .apart (sym q))
       ∙ node-same N c snap len (g .c-low) ∙ rw e
 
-  at-n : nodeOf (bornNodes N n c x first pages owner) n ≡ underNode (nodeOf N n) x
+  at-n : nodeOf (bornNodes N (birthBy n c x first pages) owner) n ≡ underNode (nodeOf N n) x
   unfolding bornNodes
   at-n = node-same N₃ n (underNode (nodeOf N n) x) len₃ (low n live-n)
 
@@ -144,7 +144,7 @@ module _ (N : List ℕ) (len : length N ≡ 1024) (n x c first pages owner next 
       ne (sym (ap (λ (j : ℕ). nodeOf N j .parent) d) ∙ k .parent))
       (λ h. let q = t .childless m h .1 in omega arith)
 
-  at-old : (m : ℕ) → Old n x c m → Relinks n x (nodeOf N m) (nodeOf (bornNodes N n c x first pages owner) m)
+  at-old : (m : ℕ) → Old n x c m → Relinks n x (nodeOf N m) (nodeOf (bornNodes N (birthBy n c x first pages) owner) m)
   unfolding bornNodes
   at-old m o =
       rw (node-away N₃ n m (underNode (nodeOf N n) x) (o .not-n))
@@ -152,7 +152,7 @@ module _ (N : List ℕ) (len : length N ≡ 1024) (n x c first pages owner next 
       (λ e. rw (at-parent m o e) (relinks-moved n x (nodeOf N m) (t .distinct m (t .parents n m e .0))))
       (λ ne. rw (away-three m ne ∙ before-three m o) (relinks-same n x (nodeOf N m) (no-left m ne) (no-right m ne))))
 
-  pub born-cloned : Cloned N (bornNodes N n c x first pages owner) n x c first pages owner
+  pub born-cloned : Cloned N (bornNodes N (birthBy n c x first pages) owner) n x c first pages owner
   born-cloned =
       record {
         leaf = g .leaf;

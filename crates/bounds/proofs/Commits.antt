@@ -5,27 +5,25 @@ use mathlib.Core.List.{List, []}
 use mathlib.Core.Logic.{inl, inr}
 use Prim.Native.Nat.{ℕ, _*_, _/_, _%_, _≤_, _<_}
 use native.Mathlib.Omega.{arith}
-use lib.Dec.{leb, ltb}
+use lib.Dec.{leb}
 use lib.ListN.{length}
 use borrow.Author.Tests.{lt-leb, le-leb}
-use Rattle.logic.specs.Pick.{pick}
-use Rattle.logic.specs.declared.Found.{Found}
-use Rattle.logic.specs.declared.Found.the-variants.{At, Nothing}
-use Rattle.node.specs.Node.{leafOf}
 use Rattle.tables.specs.Pool.{Pool}
 use Rattle.tables.specs.Tables.{nodeOf}
 use Rattle.outcome.specs.Told.{Told, toldOf}
-use Rattle.sound.specs.Sound.{sound}
 use Rattle.sound.specs.Facts.{Leaf, Sound}
 use Rattle.lookup.specs.declared.Looked.{Looked}
 use Rattle.lookup.specs.Work.{Work, workOf, Looking}
 use Rattle.lookup.specs.Lookup.{look}
 use Rattle.outcome.specs.declared.answer.Answer.the-variants.{Refused}
-use Rattle.outcome.specs.declared.answer.Refusal.the-variants.{NoRoom, BadPool}
-use Rattle.pool.specs.Calls.{findObject, atNode, onNode}
-use Rattle.commit.specs.Noted.{Said, notedOf, refusedOf}
+use Rattle.outcome.specs.declared.answer.Refusal.the-variants.{NoRoom}
+use Rattle.pool.specs.declared.entering.Entered.the-variants.{At}
+use Rattle.pool.specs.Calls.{entered, onEntered, onObject}
+use Rattle.pool.proofs.Laws.{enters, entered-at}
 use Rattle.outcome.specs.Room.{liveCount, roomOf}
-use Rattle.commit.specs.Commit.{lookedAnswer, pageRefusal, committed, commitAt, commitPage}
+use Rattle.outcome.specs.declared.answer.Answer.{Answer}
+use Rattle.outcome.specs.Outcome.{Outcome, refused}
+use Rattle.commit.specs.Commit.{lookedAnswer, pageRefusal, lookedOutcome, commitPageAt, commitPage}
 use Rattle.logic.proofs.Means.{most, split}
 use Rattle.soundness.proofs.Soundness.{sound-facts}
 use Rattle.bounds.specs.Reading.{Answers}
@@ -34,17 +32,6 @@ use Rattle.bounds.specs.Telling.{Added}
 use Rattle.bounds.specs.Calling.{LosesNone, Given}
 use Rattle.bounds.proofs.Quiet.{read-quiet, read-answers}
 use Rattle.bounds.proofs.Room.{room-enough, sent-added}
-
--- an object that is found is a leaf
-
-found-leaf : (N : List ℕ) (object n : ℕ) → findObject N object ≡ At n → Leaf N n
-unfolding findObject
-found-leaf N object n = by (ltb object 64) (leafOf (nodeOf N object)) refl
-  where
-    by : (a b : Bool) → leafOf (nodeOf N object) ≡ b → pick a (pick b (At object) Nothing) Nothing ≡ At n → Leaf N n
-    by true true e h = let q : object ≡ n = cc in rw (← q) e
-    by true false e h = let z : _≡_ {A = ℕ} 0 1 = cc in absurd (omega arith)
-    by false b e h = let z : _≡_ {A = ℕ} 0 1 = cc in absurd (omega arith)
 
 -- what lookup answers is given
 
@@ -57,7 +44,7 @@ given (zeros e) = rw e (record { value = 4294967295; is = refl })
 added-none : (t t′ : Told) → t′ ≡ t → Added t [] t′
 added-none t t′ e = rw e (record { count = omega arith; there = λ j l. absurd (omega arith) })
 
-silent : {call : List ℕ → Said} (most : ℕ) → ((list : List ℕ) → call list .told ≡ toldOf list 0) → LosesNone call most
+silent : {call : List ℕ → Outcome Answer} (most : ℕ) → ((list : List ℕ) → call list .told ≡ toldOf list 0) → LosesNone call most
 silent most e = record { notices = []; few = omega arith; all = λ list. inr (added-none _ _ (e list)) }
 
 -- the ways through commit_page on an object's node
@@ -69,20 +56,20 @@ module _ (L : ℕ) (p : Pool) (n page : ℕ) where
   abbrev looks : List ℕ → Bool → Looking
   looks list write = look L 64 (p .nodes) (p .mappings) (started list) n (page % 4294967296) write n
 
-  page-out : (list : List ℕ) (write : Bool) → leb (nodeOf (p .nodes) n .size) page ≡ true → commitAt L p list n page write .told ≡ toldOf list 0
-  unfolding commitAt pageRefusal
+  page-out : (list : List ℕ) (write : Bool) → leb (nodeOf (p .nodes) n .size) page ≡ true → commitPageAt L p list n page write .told ≡ toldOf list 0
+  unfolding commitPageAt pageRefusal
   page-out list write e = rw e
 
-  no-room : (list : List ℕ) → leb (nodeOf (p .nodes) n .size) page ≡ false → roomOf (p .mappings) list 1 ≡ false → commitAt L p list n page true ≡ notedOf (Refused NoRoom) p (toldOf list 0)
-  unfolding commitAt pageRefusal
+  no-room : (list : List ℕ) → leb (nodeOf (p .nodes) n .size) page ≡ false → roomOf (p .mappings) list 1 ≡ false → commitPageAt L p list n page true ≡ refused p list [] NoRoom
+  unfolding commitPageAt pageRefusal
   no-room list e r = rw (e, r)
 
-  goes-on : (list : List ℕ) → leb (nodeOf (p .nodes) n .size) page ≡ false → roomOf (p .mappings) list 1 ≡ true → commitAt L p list n page true ≡ committed p (looks list true)
-  unfolding commitAt pageRefusal
+  goes-on : (list : List ℕ) → leb (nodeOf (p .nodes) n .size) page ≡ false → roomOf (p .mappings) list 1 ≡ true → commitPageAt L p list n page true ≡ lookedOutcome p (looks list true)
+  unfolding commitPageAt pageRefusal
   goes-on list e r = rw (e, r)
 
-  reads : (list : List ℕ) → leb (nodeOf (p .nodes) n .size) page ≡ false → commitAt L p list n page false ≡ committed p (looks list false)
-  unfolding commitAt pageRefusal
+  reads : (list : List ℕ) → leb (nodeOf (p .nodes) n .size) page ≡ false → commitPageAt L p list n page false ≡ lookedOutcome p (looks list false)
+  unfolding commitPageAt pageRefusal
   reads list e = rw e
 
   has-room : (list : List ℕ) → liveCount (p .mappings) ≤ length list / 4 → roomOf (p .mappings) list 1 ≡ true
@@ -93,13 +80,13 @@ module _ (L : ℕ) (p : Pool) (n page : ℕ) where
   unfolding roomOf
   room-short list h = lt-leb (1 * liveCount (p .mappings)) (length list / 4) (omega arith)
 
-  node-loses : Sound L p → Leaf (p .nodes) n → (write : Bool) → LosesNone (λ list. commitAt L p list n page write) (liveCount (p .mappings))
+  node-loses : Sound L p → Leaf (p .nodes) n → (write : Bool) → LosesNone (λ list. commitPageAt L p list n page write) (liveCount (p .mappings))
   node-loses sound leaf = by (leb (nodeOf (p .nodes) n .size) page) refl
     where
-      by : (b : Bool) → leb (nodeOf (p .nodes) n .size) page ≡ b → (write : Bool) → LosesNone (λ list. commitAt L p list n page write) (liveCount (p .mappings))
+      by : (b : Bool) → leb (nodeOf (p .nodes) n .size) page ≡ b → (write : Bool) → LosesNone (λ list. commitPageAt L p list n page write) (liveCount (p .mappings))
       by true e write = silent _ (λ list. page-out list write e)
       by false e false =
-          silent _ (λ list. ap (λ (s : Said). s .told) (reads list e) ∙ read-quiet L 64 (p .nodes) (p .mappings) (started list) n (page % 4294967296) n .told)
+          silent _ (λ list. ap (λ (s : Outcome Answer). s .told) (reads list e) ∙ read-quiet L 64 (p .nodes) (p .mappings) (started list) n (page % 4294967296) n .told)
       by false e true =
           let s = room-enough L p sound (p .mappings) (started []) n (page % 4294967296) true leaf in
           record {
@@ -110,25 +97,23 @@ module _ (L : ℕ) (p : Pool) (n page : ℕ) where
                 (λ room. inr (rw (goes-on list e (has-room list room)) (sent-added s (toldOf list 0) (omega arith))))
                 (λ full.
                 let r = no-room list e (room-short list full) in
-                inl (record { short = omega arith; answer = ap (λ (s : Said). s .answer) r; told = ap (λ (s : Said). s .told) r }));
+                inl (record { short = omega arith; answer = ap (λ (s : Outcome Answer). s .answer) r; told = ap (λ (s : Outcome Answer). s .told) r }));
           }
 
 -- commit_page
 
 module _ (L : ℕ) (p : Pool) (object page : ℕ) where
   pub commit-loses-none : (write : Bool) → LosesNone (λ list. commitPage L p list object page write) (liveCount (p .mappings))
-  unfolding onNode atNode
-  commit-loses-none write = by (sound L p) refl (findObject (p .nodes) object) refl
-    where
-      by : (s : Bool) → sound L p ≡ s → (f : Found) → findObject (p .nodes) object ≡ f → LosesNone (λ list. pick s (atNode (refusedOf p list) (λ n. commitAt L p list n page write) f) (notedOf (Refused BadPool) p (toldOf list 0))) (liveCount (p .mappings))
-      by false e f h = silent _ (λ list. refl)
-      by true e Nothing h = silent _ (λ list. refl)
-      by true e (At n) h = node-loses L p n page (sound-facts L p e) (found-leaf (p .nodes) object n h) write
+  unfolding onObject onEntered
+  commit-loses-none write =
+      enters (λ e. LosesNone (λ list. onEntered (refused p list []) (λ n. commitPageAt L p list n page write) e) (liveCount (p .mappings))) L p object
+      (λ s. silent _ (λ list. refl)) (silent _ (λ list. refl)) (λ s l leaf. node-loses L p object page (sound-facts L p s) leaf write)
 
   -- every page of every object of a sound pool can be read
-  pub commit-reads : (list : List ℕ) (n : ℕ) → sound L p ≡ true → findObject (p .nodes) object ≡ At n → page < nodeOf (p .nodes) n .size → Given (commitPage L p list object page false .answer)
-  unfolding onNode atNode
-  commit-reads list n e h l =
-      rw (e, h)
+  pub commit-reads : (list : List ℕ) (n : ℕ) → entered L p object ≡ At n → page < nodeOf (p .nodes) n .size → Given (commitPage L p list object page false .answer)
+  unfolding onObject onEntered
+  commit-reads list n e l =
+      let f = entered-at L p object n e in
+      rw e
       (rw (reads L p n page list (lt-leb _ _ l))
-      (given (read-answers L p (sound-facts L p e) (p .mappings) (started L p n page list) n (page % 4294967296) n (found-leaf (p .nodes) object n h))))
+      (given (read-answers L p (sound-facts L p (f .0)) (p .mappings) (started L p n page list) n (page % 4294967296) n (f .1))))

@@ -1,14 +1,14 @@
 -- Lines on a sound pool, without its test at each call: calls keep the pool sound, and what is left computes. Assumes nothing.
 use mathlib.Core.Path.{_≡_, refl, ap, _∙_}
-use mathlib.Core.Bool.{true}
+use mathlib.Core.Bool.{true, _&&_}
 use mathlib.Core.List.{List, [], _∷_}
 use Prim.Native.Nat.{ℕ, _*_}
-use lib.Dec.{leb}
+use lib.Dec.{leb, ltb}
 use lib.ListN.{replicate}
 use Rattle.logic.specs.Pick.{pick}
 use Rattle.logic.specs.Below.{sumBelow, firstFrom, copied, zeroed}
 use Rattle.entry.specs.Entry.{tagOf, stateOf, slotOf, entryWord}
-use Rattle.node.specs.Node.{outOf, sideOf}
+use Rattle.node.specs.Node.{leafOf, outOf, sideOf, cachedOf, containsOf}
 use Rattle.blocks.specs.Blocks.{pagesOf, blockEnd, nextBy, nextOf, countOf}
 use Rattle.tables.specs.Pool.{Pool}
 use Rattle.tables.specs.Tables.{wordOf, withWord, recordOf, nodeOf, withFive, withNode, entryOf, slotAt, withEntry, withState, withoutState, rowMoved, mappingOf, numberOf, isFree, freeNodeIn, freeNodeFrom}
@@ -17,34 +17,39 @@ use Rattle.outcome.specs.Told.{putNotice, toldOf}
 use Rattle.notices.specs.Notices.{overlapOf, tellPlace, tellObject, childOf, rangeChange}
 use Rattle.lookup.specs.Lookup.{asksOf, cleared, freshBy, fresh, partBy, part, otherTold, shareOr, hiddenStep, leafTold, settleBy, settle, handedBy, enter, look}
 use Rattle.sound.specs.Sound.{sound}
-use Rattle.outcome.specs.declared.answer.Refusal.the-variants.{InvalidArgs}
-use Rattle.pool.specs.Calls as C
-use Rattle.pool.specs.Calls.{refused, leafAt, newLeaf, new, findObject, atNode, onNode}
-use Rattle.commit.specs.Noted.{refusedOf}
+use Rattle.outcome.specs.declared.answer.Refusal.the-variants.{InvalidArgs, NoObject}
+use Rattle.pool.specs.Calls.{leafAt, newLeaf, new, entered, onEntered, onObject}
+use Rattle.pool.specs.declared.entering.Entered.{Entered}
+use Rattle.pool.specs.declared.entering.Entered.the-variants.{At, Refused}
 use Rattle.outcome.specs.Room.{liveOne, liveCount, roomOf}
-use Rattle.child.specs.Child.{relinked, bornNodes, born, againstChild, withBoth, withChild, numbered, childAt}
+use Rattle.outcome.specs.Outcome.{refused}
+use Rattle.child.specs.Child.{relinked, bornNodes, born, againstChild, withBoth, withChild, numberChild, childAt}
 use Rattle.page.specs.Each.{onward, each}
 use Rattle.page.specs.Pages.{storedBy, wrotePage, writeBy, writePage, fetchedBy, lookRead, readThrough, readBy, readPage}
-use Rattle.ranges.specs.Ranges.{insideOf, cachedOf, rangedBy, againstWriting, writeRange, written, writeThrough, writeAt, refusedRange, againstReading, readRange, filled, readAt, unfilled}
+use Rattle.ranges.specs.Ranges.{rangedBy, againstWriting, writeRange, written, writeThrough, writeAt, againstReading, readRange, filled, readAt}
 use Rattle.births.proofs.Calls.{new-sound, child-sound}
 use Rattle.arrays.proofs.Sound.{read-sound, write-sound}
-use Rattle.cases.specs.Script.{Line, Reply, Step, stepOf, says, byCall, bySaid, byRanging, byFilled, blot, step, Row, repliesBy, repliesIn, Table}
+use Rattle.cases.specs.Script.{Line, Reply, Step, stepOf, says, byOutcome, byFilled, blot, step, Row, repliesBy, repliesIn, Table}
 use Rattle.cases.specs.Script.Line.{New, Child, Write, Read, Free}
+
+-- an object entered, after the sound test
+abbrev located : Pool → ℕ → Entered
+located p object = pick (ltb object 64 && leafOf (nodeOf (p .nodes) object)) (At object) (Refused NoObject)
 
 -- a call as its rule has it after the sound test
 unfoldable pub quick : ℕ → Pool → Line → Step
-unfolding leafAt newLeaf atNode findObject childAt againstChild numbered withChild withBoth born bornNodes relinked roomOf liveCount liveOne writeAt againstWriting writeThrough written writeRange writePage writeBy wrotePage storedBy rangedBy readAt againstReading readRange readPage readBy lookRead readThrough fetchedBy filled insideOf cachedOf each onward pagesOf blockEnd nextBy nextOf countOf look enter handedBy settle settleBy leafTold hiddenStep shareOr otherTold part partBy fresh freshBy cleared asksOf rangeChange childOf tellObject tellPlace overlapOf putNotice freeCount oneIdle idleOf freeFrameIn pastedAt blankAt clearedAt copiedAt nodeOf recordOf wordOf withNode withFive withWord entryOf slotAt withEntry withState withoutState rowMoved mappingOf numberOf isFree freeNodeIn freeNodeFrom tagOf stateOf slotOf entryWord outOf sideOf sumBelow firstFrom copied zeroed
-quick L p (New pages) = byCall (pick (leb pages 64) (newLeaf p pages) (refused InvalidArgs p))
+unfolding leafAt newLeaf onEntered childAt againstChild numberChild withChild withBoth born bornNodes relinked roomOf liveCount liveOne writeAt againstWriting writeThrough written writeRange writePage writeBy wrotePage storedBy rangedBy readAt againstReading readRange readPage readBy lookRead readThrough fetchedBy filled containsOf cachedOf each onward pagesOf blockEnd nextBy nextOf countOf look enter handedBy settle settleBy leafTold hiddenStep shareOr otherTold part partBy fresh freshBy cleared asksOf rangeChange childOf tellObject tellPlace overlapOf putNotice freeCount oneIdle idleOf freeFrameIn pastedAt blankAt clearedAt copiedAt nodeOf recordOf wordOf withNode withFive withWord entryOf slotAt withEntry withState withoutState rowMoved mappingOf numberOf isFree freeNodeIn freeNodeFrom tagOf stateOf slotOf entryWord outOf sideOf sumBelow firstFrom copied zeroed
+quick L p (New pages) = byOutcome (pick (leb pages 64) (newLeaf p pages) (refused p [] [] InvalidArgs))
 quick L p (Child object first count) =
-    bySaid (atNode (refusedOf p []) (λ n. childAt L p [] n (first * L) (count * L)) (findObject (p .nodes) object))
+    byOutcome (onEntered (refused p [] []) (λ n. childAt L p [] n (first * L) (count * L)) (located p object))
 quick L p (Write object offset byte len) =
-    byRanging (atNode (refusedRange p []) (λ n. writeAt L p [] n offset (replicate len byte)) (findObject (p .nodes) object))
-quick L p (Read object offset len) = byFilled (atNode (unfilled p (blot len)) (λ n. readAt L p n offset (blot len)) (findObject (p .nodes) object))
+    byOutcome (onEntered (refused p [] []) (λ n. writeAt L p [] n offset (replicate len byte)) (located p object))
+quick L p (Read object offset len) = byFilled (onEntered (refused p [] (blot len)) (λ n. readAt L p n offset (blot len)) (located p object))
 quick L p Free = stepOf (says 0 (freeCount (p .used))) p
 
 module _ (L : ℕ) where
   quick-is : (p : Pool) → sound L p ≡ true → (l : Line) → step L p l ≡ quick L p l
-  unfolding step quick new onNode
+  unfolding step quick new onObject entered
   quick-is p s (New pages) = rw s
   quick-is p s (Child object first count) = rw s
   quick-is p s (Write object offset byte len) = rw s

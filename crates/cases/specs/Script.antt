@@ -8,11 +8,12 @@ use Rattle.tables.specs.Pool.{Pool}
 use Rattle.frames.specs.Frames.{freeCount}
 use Rattle.outcome.specs.declared.answer.Answer.{Answer}
 use Rattle.outcome.specs.declared.answer.Answer.the-variants.{Done, Refused}
+use Rattle.outcome.specs.Outcome.{Outcome}
 use Rattle.outcome.specs.Answers.{codeOf, valueOf}
-use Rattle.pool.specs.Calls as C
-use Rattle.commit.specs.Noted.{Said}
+use Rattle.outcome.specs.Outcome.{refused}
+use Rattle.pool.specs.Calls.{new}
 use Rattle.child.specs.Child.{createChild}
-use Rattle.ranges.specs.Ranges.{Ranging, Filled, read, write}
+use Rattle.ranges.specs.Ranges.{read, write}
 
 pub data Line : Type 0 where
   New : (pages : ℕ) → Line
@@ -43,21 +44,15 @@ pub record Step : Type 0 where
 abbrev pub stepOf : Reply → Pool → Step
 stepOf r p = record { reply = r; pool = p }
 
-abbrev pub byCall : C.Call → Step
-byCall c = stepOf (says (codeOf (c .answer)) (valueOf (c .answer))) (c .pool)
-
-abbrev pub bySaid : Said → Step
-bySaid s = stepOf (says (codeOf (s .answer)) (valueOf (s .answer))) (s .pool)
-
--- a write gives the bytes done, refused or not
-abbrev pub byRanging : Ranging → Step
-byRanging r = stepOf (says (codeOf (r .said .answer)) (r .done)) (r .said .pool)
+-- a call's answer; a refused write gives the bytes done
+abbrev pub byOutcome : Outcome Answer → Step
+byOutcome o = stepOf (says (codeOf (o .answer)) (valueOf (o .answer) (o .done))) (o .pool)
 
 abbrev pub filling : Answer → List ℕ → Reply
 filling (Done v) buf = reads buf
 filling (Refused r) buf = says (codeOf (Refused r)) 0
 
-abbrev pub byFilled : Filled → Step
+abbrev pub byFilled : Outcome Answer → Step
 byFilled f = stepOf (filling (f .answer) (f .buf)) (f .pool)
 
 -- what a read's buffer holds before
@@ -65,9 +60,9 @@ abbrev pub blot : ℕ → List ℕ
 blot len = replicate len 255
 
 unfoldable pub step : ℕ → Pool → Line → Step
-step L p (New pages) = byCall (C.new L p pages)
-step L p (Child object first count) = bySaid (createChild L p [] object (first * L) (count * L))
-step L p (Write object offset byte len) = byRanging (write L p [] object offset (replicate len byte))
+step L p (New pages) = byOutcome (new L p pages)
+step L p (Child object first count) = byOutcome (createChild L p [] object (first * L) (count * L))
+step L p (Write object offset byte len) = byOutcome (write L p [] object offset (replicate len byte))
 step L p (Read object offset len) = byFilled (read L p object offset (blot len))
 step L p Free = stepOf (says 0 (freeCount (p .used))) p
 

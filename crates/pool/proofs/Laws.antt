@@ -87,18 +87,29 @@ module _ {A : Type 0} (B : A → Type 0) (L : ℕ) (p : Pool) (object : ℕ) {re
       by (Refused r) = h r
 
 -- and what the tests found is known of each
-module _ {A : Type 0} (B : A → Type 0) (L : ℕ) (p : Pool) (object : ℕ) {refuse : Refusal → A} {does : ℕ → A} (bad : sound L p ≡ false → B (refuse BadPool)) (none : B (refuse NoObject))
-    (go : sound L p ≡ true → object < 64 → leafOf (nodeOf (p .nodes) object) ≡ true → B (does object)) where
-  pub on-leaf : B (onObject L p object refuse does)
-  unfolding onObject onEntered entered
-  on-leaf = by (sound L p) refl (ltb object 64) refl (leafOf (nodeOf (p .nodes) object)) refl
+module _ (Q : Entered → Type 0) (L : ℕ) (p : Pool) (object : ℕ) (bad : sound L p ≡ false → Q (Refused BadPool)) (none : Q (Refused NoObject))
+    (go : sound L p ≡ true → object < 64 → leafOf (nodeOf (p .nodes) object) ≡ true → Q (At object)) where
+  pub enters : Q (entered L p object)
+  unfolding entered
+  enters = by (sound L p) refl (ltb object 64) refl (leafOf (nodeOf (p .nodes) object)) refl
     where
       by : (s : Bool) → sound L p ≡ s → (a : Bool) → ltb object 64 ≡ a → (b : Bool) → leafOf (nodeOf (p .nodes) object) ≡ b
-          → B (onEntered refuse does (pick s (pick (a && b) (At object) (Refused NoObject)) (Refused BadPool)))
+          → Q (pick s (pick (a && b) (At object) (Refused NoObject)) (Refused BadPool))
       by false s a l b h = bad s
       by true s true l true h = go s (ltb-true object 64 l) h
       by true s true l false h = none
       by true s false l b h = none
+
+pub entered-at : (L : ℕ) (p : Pool) (object n : ℕ) → entered L p object ≡ At n → (sound L p ≡ true) × (leafOf (nodeOf (p .nodes) n) ≡ true)
+entered-at L p object n =
+    enters (λ e. e ≡ At n → (sound L p ≡ true) × (leafOf (nodeOf (p .nodes) n) ≡ true)) L p object (λ s h. other h) (λ h. other h)
+    (λ s l f h. let q : object ≡ n = cc in (s, rw (← q) f))
+
+module _ {A : Type 0} (B : A → Type 0) (L : ℕ) (p : Pool) (object : ℕ) (refuse : Refusal → A) (does : ℕ → A) where
+  pub on-leaf : (sound L p ≡ false → B (refuse BadPool)) → B (refuse NoObject) → (sound L p ≡ true → object < 64 → leafOf (nodeOf (p .nodes) object) ≡ true → B (does object))
+      → B (onObject L p object refuse does)
+  unfolding onObject onEntered
+  on-leaf = enters (λ e. B (onEntered refuse does e)) L p object
 
 module _ (N P U M H Y : List ℕ) (size : ℕ) {r : Reply} where
   pub leaf-new : {N′ H′ : List ℕ} {o i : ℕ} {f : Found} {n : Node} → o ≡ getD H 0 0 → o ≤ lastOwner → f ≡ freeNodeIn N → f ≡ Free i → n ≡ originNode size o → N′ ≡ withNode N i n → H′ ≡ set H 0 (o + 1) → r ≡ replyOf (Done i) → outcome r (poolOf N′ P U M H′ Y) [] [] ≡ newLeaf (poolOf N P U M H Y) size

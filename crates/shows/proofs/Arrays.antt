@@ -6,6 +6,7 @@ use Prim.Native.Nat.{ℕ, _+_, _*_, _<_}
 use native.Mathlib.Omega.{arith}
 use lib.ListN.{length, getD}
 use borrow.Author.Tests.{eq-eqb, le-leb, lt-ltb}
+use Rattle.node.specs.Node.{cachedOf, containsOf}
 use Rattle.tables.specs.Pool.{Pool}
 use Rattle.tables.specs.Tables.{nodeOf}
 use Rattle.outcome.specs.Told.{Told, toldOf}
@@ -17,8 +18,8 @@ use Rattle.soundness.proofs.Soundness.{facts-sound}
 use Rattle.seek.specs.declared.Sought.{Sought}
 use Rattle.seek.specs.declared.Sought.the-variants.{Shared, Zero, Absent, Moves, Stops}
 use Rattle.seek.specs.Seek.{seekPage}
-use Rattle.pool.specs.Calls.{findObject, atNode, onNode}
-use Rattle.ranges.specs.Ranges.{cachedOf, insideOf, againstReading}
+use Rattle.pool.specs.Calls.{entered, onEntered, onObject}
+use Rattle.ranges.specs.Ranges.{againstReading}
 use Rattle.isolation.specs.Private.{Private}
 use Rattle.isolation.specs.Kept.{workIn, Gives, Answers}
 use Rattle.isolation.proofs.Look.{look-keeps}
@@ -54,7 +55,7 @@ module _ (L : ℕ) (A : ℕ → ℕ → ℕ → ℕ) (p : Pool) (P : Private L A
 
   -- a page inside an object of the policy Cached is found
   found : nodeOf (p .nodes) n .«cache_policy» ≡ 0 → peek L p zero n page ≡ shownAt L (p .memory) zero (placeBy (seekPage (p .nodes) (p .pages) n page false))
-  unfolding peek place onNode findObject atNode placeAt againstReading cachedOf insideOf
+  unfolding peek place onObject onEntered entered placeAt againstReading cachedOf containsOf
   found cached =
       rw (good, facts-sound L p (P .sound), lt-ltb n 64 (node-low (p .nodes) (record { next = getD (p .head) 0 0; len = P .sound .lengths .nodes; tree = P .sound .tree }) n page low), leaf, eq-eqb (nodeOf (p .nodes) n .«cache_policy») 0 cached, le-leb (page * L + L) (nodeOf (p .nodes) n .size * L) (frame-room L (nodeOf (p .nodes) n .size) page low))
 

@@ -5,14 +5,9 @@ use mathlib.Core.List.{List, []}
 use mathlib.Core.Logic.{_⊎_, inl, inr}
 use Prim.Native.Nat.{ℕ, _*_, _≤_}
 use native.Mathlib.Omega.{arith}
-use lib.Dec.{ltb}
 use lib.ListN.{length}
 use Rattle.logic.specs.Pick.{pick}
-use Rattle.logic.specs.declared.Found.the-variants.{At, Nothing}
-use Rattle.node.specs.Node.{leafOf}
 use Rattle.tables.specs.Pool.{Pool}
-use Rattle.tables.specs.Tables.{nodeOf}
-use Rattle.sound.specs.Sound.{sound}
 use Rattle.sound.specs.Facts.{Leaf, Sound}
 use Rattle.soundness.proofs.Soundness.{sound-facts}
 use Rattle.seek.specs.Seek.{seekPage}
@@ -22,9 +17,13 @@ use Rattle.outcome.specs.declared.answer.Refusal.the-variants.{BadPool, NoObjec
 use Rattle.outcome.specs.declared.answer.Against.{Against}
 use Rattle.outcome.specs.declared.answer.Against.the-variants.{Why, Nothing as Fine}
 use Rattle.outcome.specs.Answers.{unless}
-use Rattle.pool.specs.Calls.{findObject, atNode, onNode}
+use Rattle.outcome.specs.declared.answer.Answer.{Answer}
+use Rattle.outcome.specs.Outcome.{Outcome, refused}
+use Rattle.pool.specs.declared.entering.Entered.the-variants.{Refused as Unentered}
+use Rattle.pool.specs.Calls.{entered, onEntered, onObject}
+use Rattle.pool.proofs.Laws.{enters}
 use Rattle.page.specs.Pages.{readOf}
-use Rattle.ranges.specs.Ranges.{Filled, filled, unfilled, againstReading, readRange, readAt, read}
+use Rattle.ranges.specs.Ranges.{filled, againstReading, readRange, readAt, read}
 use Rattle.peek.specs.declared.Shown.{Shown}
 use Rattle.peek.specs.declared.Shown.the-variants.{Nowhere}
 use Rattle.peek.specs.Peek.{zeroPageOf, placeBy, placeAt, place, shownAt, peek}
@@ -39,7 +38,7 @@ module _ (L : ℕ) (p : Pool) (zero : List ℕ) (object page : ℕ) where
   at-good true x n e = rw (n e)
   at-good false x n e = refl
 
-  nowhere : onNode L p object (λ r. Nowhere) (λ n. placeAt L p n page) ≡ Nowhere → peek L p zero object page ≡ []
+  nowhere : onObject L p object (λ r. Nowhere) (λ n. placeAt L p n page) ≡ Nowhere → peek L p zero object page ≡ []
   unfolding peek place
   nowhere e = at-good (zeroPageOf L zero) _ (λ g. e) refl
 
@@ -47,17 +46,9 @@ module _ (L : ℕ) (p : Pool) (zero : List ℕ) (object page : ℕ) where
   unfolding peek place
   peek-zero e = rw e
 
-  pub peek-pool : sound L p ≡ false → peek L p zero object page ≡ []
-  unfolding onNode
-  peek-pool e = nowhere (rw e)
-
-  pub peek-object : findObject (p .nodes) object ≡ Nothing → peek L p zero object page ≡ []
-  unfolding onNode atNode
-  peek-object e = nowhere (rw e (by (sound L p)))
-    where
-      by : (b : Bool) → pick b Nowhere Nowhere ≡ Nowhere
-      by true = refl
-      by false = refl
+  pub peek-unentered : {r : Refusal} → entered L p object ≡ Unentered r → peek L p zero object page ≡ []
+  unfolding onObject onEntered
+  peek-unentered e = nowhere (rw e)
 
 -- next to the read
 
@@ -65,28 +56,24 @@ module _ (L : ℕ) (p : Pool) (zero : List ℕ) (object page : ℕ) (buf : List 
   abbrev shown : List ℕ
   shown = peek L p zero object page
 
-  abbrev given : Filled
+  abbrev given : Outcome Answer
   given = read L p object (page * L) buf
 
   module _ (good : zeroPageOf L zero ≡ true) where
     node-by : Sound L p → Leaf (p .nodes) object → (a : Against)
         → Peeked L (shownAt L (p .memory) zero (unless a (λ r. Nowhere) (placeBy (seekPage (p .nodes) (p .pages) object page false))))
-        (unless a (unfilled p buf) (filled p (readRange L (p .nodes) (p .mappings) object (page * L) (readOf (p .pages) (p .used) (p .memory) buf))))
+        (unless a (refused p [] buf) (filled p (readRange L (p .nodes) (p .mappings) object (page * L) (readOf (p .pages) (p .used) (p .memory) buf))))
     node-by s leaf (Why r) = nothing r refl refl
     node-by s leaf Fine = page-read L p s object page leaf zero good buf whole
 
-    call-by : (s a b : Bool) → sound L p ≡ s → leafOf (nodeOf (p .nodes) object) ≡ b
-        → Peeked L (shownAt L (p .memory) zero (pick s (atNode (λ r. Nowhere) (λ n. placeAt L p n page) (pick a (pick b (At object) Nothing) Nothing)) Nowhere))
-        (pick s (atNode (unfilled p buf) (λ n. readAt L p n (page * L) buf) (pick a (pick b (At object) Nothing) Nothing)) (unfilled p buf BadPool))
-    unfolding atNode placeAt readAt
-    call-by false a b e f = nothing BadPool refl refl
-    call-by true false b e f = nothing NoObject refl refl
-    call-by true true false e f = nothing NoObject refl refl
-    call-by true true true e f = rw whole (node-by (sound-facts L p e) f (againstReading L (p .nodes) object (page * L) L))
-
     pub peek-called : Peeked L shown given
-    unfolding peek place onNode findObject
-    peek-called = rw good (call-by (sound L p) (ltb object 64) (leafOf (nodeOf (p .nodes) object)) refl refl)
+    unfolding peek place onObject onEntered placeAt readAt
+    peek-called =
+        rw good
+        (enters
+        (λ e. Peeked L (shownAt L (p .memory) zero (onEntered (λ r. Nowhere) (λ n. placeAt L p n page) e)) (onEntered (refused p [] buf) (λ n. readAt L p n (page * L) buf) e))
+        L p object (λ s. nothing BadPool refl refl) (nothing NoObject refl refl)
+        (λ s l leaf. rw whole (node-by (sound-facts L p s) leaf (againstReading L (p .nodes) object (page * L) L))))
 
     pub peek-is-read : (v : ℕ) → given .answer ≡ Done v → shown ≡ given .buf
     peek-is-read v h = by peek-called

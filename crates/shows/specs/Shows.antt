@@ -11,7 +11,8 @@ use Rattle.seek.specs.declared.Sought.{Sought}
 use Rattle.seek.specs.declared.Sought.the-variants.{Shared, Zero, Absent, Moves, Stops}
 use Rattle.outcome.specs.declared.answer.Answer.the-variants.{Done, Refused}
 use Rattle.outcome.specs.declared.answer.Refusal.{Refusal}
-use Rattle.ranges.specs.Ranges.{Filled}
+use Rattle.outcome.specs.declared.answer.Answer.{Answer}
+use Rattle.outcome.specs.Outcome.{Outcome, refused}
 
 -- lookup answers the frame found, one of F, whether it would move or not, or zeros; the walk never ends without
 abbrev pub ReadAs : ℕ → Sought → Looked → Type 0
@@ -29,12 +30,12 @@ pub record Sees (F : ℕ) (s : Sought) (w : Work) (r : Looking) : Type 0 where
   pub told : r .work .told ≡ w .told
 
 -- the read is refused and peek shows nothing, or peek shows the L bytes that the read gives
-pub data Peeked (L : ℕ) (shown : List ℕ) (r : Filled) : Type 0 where
+pub data Peeked (L : ℕ) (shown : List ℕ) (r : Outcome Answer) : Type 0 where
   nothing : (why : Refusal) → r .answer ≡ Refused why → shown ≡ [] → Peeked L shown r
   bytes : r .answer ≡ Done 0 → shown ≡ r .buf → length shown ≡ L → Peeked L shown r
 
 -- the read is refused
-pub record Refuses (r : Filled) : Type 0 where
+pub record Refuses (r : Outcome Answer) : Type 0 where
   pub why : Refusal
   pub answer : r .answer ≡ Refused why
 
