@@ -3,7 +3,7 @@ use mathlib.Core.Path.{_≡_, refl, ap, _∙_}
 use mathlib.Core.Bool.{Bool, true, false}
 use mathlib.Core.List.{List, []}
 use mathlib.Core.Logic.{inl, inr}
-use Prim.Native.Nat.{ℕ, _*_, _/_, _%_, _≤_, _<_}
+use Prim.Native.Nat.{ℕ, _*_, _/_, _≤_, _<_}
 use native.Mathlib.Omega.{arith}
 use lib.Dec.{leb}
 use lib.ListN.{length}
@@ -12,9 +12,9 @@ use Rattle.tables.specs.Pool.{Pool}
 use Rattle.tables.specs.Tables.{nodeOf}
 use Rattle.outcome.specs.Told.{Told, toldOf}
 use Rattle.sound.specs.Facts.{Leaf, Sound}
-use Rattle.lookup.specs.declared.Looked.{Looked}
-use Rattle.lookup.specs.Work.{Work, workOf, Looking}
-use Rattle.lookup.specs.Lookup.{look}
+use Rattle.lookup.specs.declared.Committed.{Committed}
+use Rattle.lookup.specs.Work.{Work, workOf}
+use Rattle.lookup.specs.Commit.{Committing, commitLeaf}
 use Rattle.outcome.specs.declared.answer.Answer.the-variants.{Refused}
 use Rattle.outcome.specs.declared.answer.Refusal.the-variants.{NoRoom}
 use Rattle.pool.specs.declared.entering.Entered.the-variants.{At}
@@ -23,19 +23,19 @@ use Rattle.pool.proofs.Laws.{enters, entered-at}
 use Rattle.outcome.specs.Room.{liveCount, roomOf}
 use Rattle.outcome.specs.declared.answer.Answer.{Answer}
 use Rattle.outcome.specs.Outcome.{Outcome, refused}
-use Rattle.commit.specs.Commit.{lookedAnswer, pageRefusal, lookedOutcome, commitPageAt, commitPage}
+use Rattle.commit.specs.Commit.{committedAnswer, pageRefusal, committedOutcome, commitPageAt, commitPage}
 use Rattle.logic.proofs.Means.{most, split}
 use Rattle.soundness.proofs.Soundness.{sound-facts}
-use Rattle.bounds.specs.Reading.{Answers}
-use Rattle.bounds.specs.Reading.Answers.{frame, zeros}
+use Rattle.lookups.specs.Reading.{Readable}
+use Rattle.lookups.specs.Reading.Readable.{frame, zeros}
 use Rattle.bounds.specs.Telling.{Added}
 use Rattle.bounds.specs.Calling.{LosesNone, Given}
-use Rattle.bounds.proofs.Quiet.{read-quiet, read-answers}
+use Rattle.lookups.proofs.Quiet.{commit-quiet, commit-answers}
 use Rattle.bounds.proofs.Room.{room-enough, sent-added}
 
 -- what lookup answers is given
 
-given : {r : Looked} → Answers r → Given (lookedAnswer r)
+given : {r : Committed} → Readable r → Given (committedAnswer r)
 given (frame f e) = rw e (record { value = f; is = refl })
 given (zeros e) = rw e (record { value = 4294967295; is = refl })
 
@@ -53,8 +53,8 @@ module _ (L : ℕ) (p : Pool) (n page : ℕ) where
   abbrev started : List ℕ → Work
   started list = workOf (p .pages) (p .used) (p .memory) (toldOf list 0)
 
-  abbrev looks : List ℕ → Bool → Looking
-  looks list write = look L 64 (p .nodes) (p .mappings) (started list) n (page % 4294967296) write n
+  abbrev looks : List ℕ → Bool → Committing
+  looks list write = commitLeaf L (p .nodes) (p .mappings) (started list) n page write
 
   page-out : (list : List ℕ) (write : Bool) → leb (nodeOf (p .nodes) n .size) page ≡ true → commitPageAt L p list n page write .told ≡ toldOf list 0
   unfolding commitPageAt pageRefusal
@@ -64,11 +64,11 @@ module _ (L : ℕ) (p : Pool) (n page : ℕ) where
   unfolding commitPageAt pageRefusal
   no-room list e r = rw (e, r)
 
-  goes-on : (list : List ℕ) → leb (nodeOf (p .nodes) n .size) page ≡ false → roomOf (p .mappings) list 1 ≡ true → commitPageAt L p list n page true ≡ lookedOutcome p (looks list true)
+  goes-on : (list : List ℕ) → leb (nodeOf (p .nodes) n .size) page ≡ false → roomOf (p .mappings) list 1 ≡ true → commitPageAt L p list n page true ≡ committedOutcome p (looks list true)
   unfolding commitPageAt pageRefusal
   goes-on list e r = rw (e, r)
 
-  reads : (list : List ℕ) → leb (nodeOf (p .nodes) n .size) page ≡ false → commitPageAt L p list n page false ≡ lookedOutcome p (looks list false)
+  reads : (list : List ℕ) → leb (nodeOf (p .nodes) n .size) page ≡ false → commitPageAt L p list n page false ≡ committedOutcome p (looks list false)
   unfolding commitPageAt pageRefusal
   reads list e = rw e
 
@@ -86,9 +86,9 @@ module _ (L : ℕ) (p : Pool) (n page : ℕ) where
       by : (b : Bool) → leb (nodeOf (p .nodes) n .size) page ≡ b → (write : Bool) → LosesNone (λ list. commitPageAt L p list n page write) (liveCount (p .mappings))
       by true e write = silent _ (λ list. page-out list write e)
       by false e false =
-          silent _ (λ list. ap (λ (s : Outcome Answer). s .told) (reads list e) ∙ read-quiet L 64 (p .nodes) (p .mappings) (started list) n (page % 4294967296) n .told)
+          silent _ (λ list. ap (λ (s : Outcome Answer). s .told) (reads list e) ∙ commit-quiet L (p .nodes) (p .mappings) (started list) n page .2)
       by false e true =
-          let s = room-enough L p sound (p .mappings) (started []) n (page % 4294967296) true leaf in
+          let s = room-enough L p sound (p .mappings) (started []) n page true leaf in
           record {
             notices = s .notices;
             few = s .few;
@@ -116,4 +116,4 @@ module _ (L : ℕ) (p : Pool) (object page : ℕ) where
       let f = entered-at L p object n e in
       rw e
       (rw (reads L p n page list (lt-leb _ _ l))
-      (given (read-answers L p (sound-facts L p (f .0)) (p .mappings) (started L p n page list) n (page % 4294967296) n (f .1))))
+      (given (commit-answers L p (sound-facts L p (f .0)) (p .mappings) (started L p n page list) n page (f .1))))

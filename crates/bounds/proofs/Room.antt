@@ -14,7 +14,7 @@ use Rattle.lookup.specs.Work.{Work, Looking}
 use Rattle.lookup.specs.Lookup.{withTold, look}
 use Rattle.outcome.specs.Room.{liveCount}
 use Rattle.bounds.specs.Telling.{Tells, Sends, Wrote, Added}
-use Rattle.bounds.proofs.Quiet.{leaf-seen}
+use Rattle.lookups.proofs.Leaves.{leaf-seen}
 use Rattle.bounds.proofs.Adding.{wrote-in, all-wrote, all-added}
 use Rattle.bounds.proofs.Once.{once-few}
 use Rattle.bounds.proofs.Heard.{Heard, object-heard, range-heard}

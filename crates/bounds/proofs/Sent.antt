@@ -8,20 +8,22 @@ use Rattle.logic.specs.Pick.{pick}
 use Rattle.logic.specs.declared.Found.{Found}
 use Rattle.logic.specs.declared.Found.the-variants.{At, Nothing}
 use Rattle.entry.specs.declared.PageState.{PageState}
-use Rattle.entry.specs.declared.PageStateTag.{PageStateTag}
 use Rattle.entry.specs.declared.Slot.{Slot}
 use Rattle.entry.specs.declared.Slot.the-variants.{Empty, Held}
 use Rattle.entry.specs.Entry.{splitOf, newState}
-use Rattle.node.specs.Node.{hiddenOf, windowOf, outOf, sideOf}
-use Rattle.tables.specs.Tables.{nodeOf, slotAt, withState}
+use Rattle.node.specs.Node.{hiddenOf, sideOf}
+use Rattle.tables.specs.Tables.{slotAt, withState}
 use Rattle.frames.specs.Frames.{freeFrameIn}
 use Rattle.outcome.specs.declared.notice.Notice.{Notice}
-use Rattle.outcome.specs.Told.{Told}
+use Rattle.outcome.specs.Told.{Told, unmap}
 use Rattle.notices.specs.Notices.{rangeChange}
 use Rattle.lookup.specs.declared.Looked.{Looked}
 use Rattle.lookup.specs.declared.Looked.the-variants.{Shared, Zero, Own, New, NoMemory, Stopped}
 use Rattle.lookup.specs.Work.{workOf, Looking, lookingOf}
-use Rattle.lookup.specs.Lookup.{asksOf, cleared, freshBy, fresh, partBy, part, other, otherTold, shareOr, hiddenStep, leafTold, settleBy, settle, handedBy, handed, holdsOf, enter}
+use Rattle.lookup.specs.declared.Place.{Place}
+use Rattle.lookup.specs.Mode.{Mode, today, nodeAt, other, bothAt, haltsAt, asks}
+use Rattle.lookup.specs.Level.{cleared, freshBy, freshIn, fresh, childTold, copyBy, shareIn, leafTold, serve, passBy, pass}
+use Rattle.lookup.specs.Lookup.{enterBy, enter}
 use Rattle.bounds.specs.Telling.{putAll}
 use Rattle.bounds.proofs.Adding.{put-both}
 use Rattle.bounds.proofs.Once.{Once, once-none, once-in, once-both}
@@ -96,69 +98,59 @@ module _ {M : List ℕ} where
 
 -- the steps of a node
 
-module _ (L : ℕ) (N M : List ℕ) (node i : ℕ) (write : Bool) (asker : ℕ) where
-  fresh-sent : {P : ℕ → Type 0} (p u y : List ℕ) (hidden out : Bool) → Sent M P (λ t. fresh L (workOf p u y t) node i hidden out write)
-  unfolding fresh freshBy cleared
-  fresh-sent {P} p u y hidden out = sent-pick write (by (freeFrameIn u) hidden out) (sent-none Zero p u y)
+module _ (L : ℕ) (N M : List ℕ) (p : Place) (write : Bool) where
+  abbrev m : Mode
+  m = today L N M
+
+  fresh-sent : {P : ℕ → Type 0} (q u y : List ℕ) → Sent M P (λ t. fresh m write (workOf q u y t) p)
+  unfolding freshIn freshBy cleared
+  fresh-sent {P} q u y = sent-pick write (by (freeFrameIn u) (hiddenOf (nodeAt m p)) (haltsAt m p)) (sent-none Zero q u y)
     where
-      by : (f : Found) (hidden out : Bool) → Sent M P (λ t. freshBy L f (workOf p u y t) node i hidden out)
-      by Nothing hidden out = sent-none _ _ _ _
+      by : (f : Found) (hidden halts : Bool) → Sent M P (λ t. freshBy L f (workOf q u y t) p hidden halts)
+      by Nothing hidden halts = sent-none _ _ _ _
       by (At f) true true = sent-none _ _ _ _
       by (At f) true false = sent-none _ _ _ _
       by (At f) false true = sent-none _ _ _ _
       by (At f) false false = sent-none _ _ _ _
 
-  share-sent : {P : ℕ → Type 0} (s : PageState) (tag : PageStateTag) (p u y : List ℕ) (unmap : Bool) → Sent M P (λ t. shareOr L s tag (workOf p u y t) node i write unmap)
-  unfolding shareOr part partBy
-  share-sent {P} s tag p u y unmap =
-      sent-pick (splitOf (s .tag)) (sent-none _ _ _ _) (sent-pick (write && splitOf tag) (by (freeFrameIn u)) (sent-none _ _ _ _))
+  share-sent : {P : ℕ → Type 0} (s : PageState) (q u y : List ℕ) (unmap : Bool) → Sent M P (λ t. shareIn m write p s unmap (workOf q u y t))
+  unfolding shareIn copyBy childTold
+  share-sent {P} s q u y unmap =
+      sent-pick (splitOf (s .tag)) (sent-none _ _ _ _) (sent-pick (write && splitOf (sideOf (nodeAt m p) (p .asker) .tag)) (by (freeFrameIn u)) (sent-none _ _ _ _))
     where
-      by : (f : Found) → Sent M P (λ t. partBy L f (workOf p u y t) node i s tag)
+      by : (f : Found) → Sent M P (λ t. copyBy m p s unmap f (workOf q u y t))
       by Nothing = sent-none _ _ _ _
       by (At f) = sent-none _ _ _ _
 
-  hidden-sent : {P : ℕ → Type 0} → Heard M P (λ t. rangeChange 64 N M (other (nodeOf N node) asker) i (i + 1) 1 t) → (s : PageState) (p u y : List ℕ) (unmap : Bool) → Sent M P (λ t. hiddenStep L N M s (nodeOf N node) (workOf p u y t) node i write asker unmap)
-  unfolding hiddenStep otherTold
-  hidden-sent h s p u y unmap =
-      let n = nodeOf N node in
-      sent-pick (windowOf (nodeOf N (other n asker)) i)
-      (sent-after (heard-pick unmap h heard-none) (share-sent s (sideOf n asker .tag) p u y unmap))
-      (sent-none _ _ _ _)
-
   abbrev pub Settles : (ℕ → Type 0) → Type 0
-  Settles P = (p u y : List ℕ) (unmap : Bool) → Sent M P (λ t. settle L N M (workOf p u y t) node i write asker unmap)
+  Settles P = (s : PageState) (q u y : List ℕ) (unmap : Bool) → Sent M P (λ t. serve m write p s unmap (workOf q u y t))
 
-  pub hidden-settles : {P : ℕ → Type 0} → hiddenOf (nodeOf N node) ≡ true → Heard M P (λ t. rangeChange 64 N M (other (nodeOf N node) asker) i (i + 1) 1 t) → Settles P
-  unfolding settle settleBy
-  hidden-settles {P} e h p u y unmap = by (slotAt p node i)
-    where
-      by : (s : Slot) → Sent M P (λ t. settleBy L N M s (workOf p u y t) node i write asker unmap)
-      by Empty = sent-none _ _ _ _
-      by (Held s) = rw e (hidden-sent h s p u y unmap)
+  pub hidden-settles : {P : ℕ → Type 0} → hiddenOf (nodeAt m p) ≡ true → Heard M P (λ t. rangeChange 64 N M (other (nodeAt m p) (p .asker)) (p .page) (p .page + 1) unmap t) → Settles P
+  unfolding serve childTold
+  hidden-settles {P} e h s q u y due =
+      rw e
+      (sent-pick (bothAt m p) (sent-after (heard-pick due h heard-none) (share-sent s q u y due)) (sent-none _ _ _ _))
 
-  pub leaf-settles : hiddenOf (nodeOf N node) ≡ false → Settles (λ o. o ≡ node)
-  unfolding settle settleBy leafTold
-  leaf-settles e p u y unmap = by (slotAt p node i)
-    where
-      by : (s : Slot) → Sent M (λ o. o ≡ node) (λ t. settleBy L N M s (workOf p u y t) node i write asker unmap)
-      by Empty = sent-none _ _ _ _
-      by (Held s) = rw e (sent-after (heard-pick unmap (object-heard M node i 1 1) heard-none) (sent-none (Shared (s .frame)) p u y))
+  pub leaf-settles : hiddenOf (nodeAt m p) ≡ false → Settles (λ o. o ≡ p .node)
+  unfolding serve leafTold
+  leaf-settles e s q u y due = rw e (sent-after (heard-pick due (object-heard M (p .node) (p .page) (p .page + 1) unmap) heard-none) (sent-none (Shared (s .frame)) q u y))
 
   -- what the parent sends, and then what the node does
 
   module _ {Q : ℕ → Type 0} (settles : Settles Q) where
-    handed-sent : (r : Looked) (p u y : List ℕ) → Sent M Q (λ t. handedBy L N M r (workOf p u y t) node i write asker)
-    unfolding handedBy
-    handed-sent (Shared f) p u y = sent-none _ _ _ _
-    handed-sent Zero p u y = sent-none _ _ _ _
-    handed-sent NoMemory p u y = sent-none _ _ _ _
-    handed-sent Stopped p u y = sent-none _ _ _ _
-    handed-sent (New f) p u y = sent-pick (hiddenOf (nodeOf N node)) (sent-none _ _ _ _) (sent-none _ _ _ _)
-    handed-sent (Own f unmap) p u y = settles (withState p node i (newState f)) u y unmap
+    pass-sent : (r : Looked) (q u y : List ℕ) → Sent M Q (λ t. passBy m write p r (workOf q u y t))
+    unfolding passBy
+    pass-sent (Shared f) q u y = sent-none _ _ _ _
+    pass-sent Zero q u y = sent-none _ _ _ _
+    pass-sent NoMemory q u y = sent-none _ _ _ _
+    pass-sent Stopped q u y = sent-none _ _ _ _
+    pass-sent (New f) q u y = sent-pick (hiddenOf (nodeAt m p)) (sent-none _ _ _ _) (sent-none _ _ _ _)
+    pass-sent (Own f due) q u y = settles (newState f) (withState q (p .node) (p .page) (newState f)) u y due
 
-    pub enter-sent : {P R : ℕ → Type 0} {up : Told → Looking} → ((o : ℕ) → P o → Q o → ⊥) → ((o : ℕ) → P o → R o) → ((o : ℕ) → Q o → R o) → Sent M P up → (p u y : List ℕ) → Sent M R (λ t. enter L N M (workOf p u y t) node i write asker (up t))
-    unfolding enter
-    enter-sent never a b s p u y =
-        sent-pick (holdsOf (slotAt p node i)) (sent-in (λ t. refl) b (settles p u y false))
-        (sent-pick (asksOf (nodeOf N node) i) (sent-then (handed L N M node i write asker) never a b s handed-sent)
-        (fresh-sent p u y (hiddenOf (nodeOf N node)) (outOf (nodeOf N node) i)))
+    pub enter-sent : {P R : ℕ → Type 0} {above : Told → Looking} → ((o : ℕ) → P o → Q o → ⊥) → ((o : ℕ) → P o → R o) → ((o : ℕ) → Q o → R o) → Sent M P above → (q u y : List ℕ) → Sent M R (λ t. enter m write (workOf q u y t) p (above t))
+    unfolding enterBy
+    enter-sent {P} {R} {above} never a b s q u y = by (slotAt q (p .node) (p .page))
+      where
+        by : (x : Slot) → Sent M R (λ t. enterBy m write (workOf q u y t) p x (above t))
+        by (Held e) = sent-in (λ t. refl) b (settles e q u y false)
+        by Empty = sent-pick (asks m p) (sent-then (pass m write p) never a b s pass-sent) (fresh-sent q u y)

@@ -12,7 +12,7 @@ use Rattle.entry.specs.Entry.{splitOf, newState, taggedOf}
 use Rattle.node.specs.Node.{hiddenOf, sideOf}
 use Rattle.tables.specs.Tables.{slotAt, withState, withoutState}
 use Rattle.frames.specs.Frames.{freeFrameIn, takenOf, givenOf, clearedAt, copiedAt}
-use Rattle.outcome.specs.Told.{Told}
+use Rattle.outcome.specs.Told.{Told, unmap}
 use Rattle.notices.specs.Notices.{tellObject, rangeChange}
 use Rattle.lookup.specs.declared.Looked.{Looked}
 use Rattle.lookup.specs.declared.Looked.the-variants.{Shared, Zero, Own, New, NoMemory, Stopped}
@@ -67,7 +67,7 @@ fresh m write w p = freshIn (m .bytes) write w p (hiddenOf (nodeAt m p)) (haltsA
 
 -- an Unmap that is due goes to the other child, 612; and, where the copy is refused, to the asking one in a mode that tells it
 unfoldable pub childTold : Mode → ℕ → ℕ → Bool → Told → Told
-childTold m child i due t = pick due (rangeChange 64 (m .nodes) (m .mappings) child i (i + 1) 1 t) t
+childTold m child i due t = pick due (rangeChange 64 (m .nodes) (m .mappings) child i (i + 1) unmap t) t
 
 abbrev pub toldAt : Mode → Place → Bool → Work → Work
 toldAt m p u w = withTold w (childTold m (other (nodeAt m p) (p .asker)) (p .page) u (w .told))
@@ -95,17 +95,17 @@ shareIn m write p s u w =
 
 -- a leaf that has the page, 619: its mappings are told of a frame that was handed down
 unfoldable pub leafTold : List ℕ → ℕ → ℕ → Bool → Told → Told
-leafTold M node i unmap t = pick unmap (tellObject M t 64 node i (i + 1) 1) t
+leafTold M node i due t = pick due (tellObject M t 64 node i (i + 1) unmap) t
 
 abbrev pub leafStep : List ℕ → PageState → Work → ℕ → ℕ → Bool → Looking
-leafStep M s w node i unmap = lookingOf (Shared (s .frame)) (withTold w (leafTold M node i unmap (w .told)))
+leafStep M s w node i due = lookingOf (Shared (s .frame)) (withTold w (leafTold M node i due (w .told)))
 
 -- the page at the node, 598 to 639: what only the asking child can reach goes to it
 unfoldable pub serve : Mode → Bool → Place → PageState → Bool → Work → Looking
-serve m write p s unmap w =
+serve m write p s due w =
     pick (hiddenOf (nodeAt m p))
-    (pick (bothAt m p) (shareIn m write p s unmap (toldAt m p unmap w)) (lookingOf (Own (s .frame) unmap) (outAt p w)))
-    (leafStep (m .mappings) s w (p .node) (p .page) unmap)
+    (pick (bothAt m p) (shareIn m write p s due (toldAt m p due w)) (lookingOf (Own (s .frame) due) (outAt p w)))
+    (leafStep (m .mappings) s w (p .node) (p .page) due)
 
 -- what the parent answered, taken apart, 575 to 595: a shared frame and a refusal leave early; what was handed over is kept and served; a
 -- cleared frame passes hidden nodes

@@ -13,8 +13,9 @@ use Rattle.lookup.specs.declared.Looked.the-variants.{Shared, Zero, Own, New, N
 use Rattle.lookup.specs.Work.{Work, Looking, lookingOf}
 use Rattle.lookup.specs.Level.{childTold, leafTold}
 use Rattle.lookup.specs.Lookup.{look}
-use Rattle.lookups.specs.Reading.{Reads, Quiet, Answers}
-use Rattle.lookups.specs.Reading.Answers.{frame, zeros as no-frame}
+use Rattle.lookup.specs.Commit.{committedBy, commitLeaf}
+use Rattle.lookups.specs.Reading.{Reads, Quiet, Readable}
+use Rattle.lookups.specs.Reading.Readable.{frame, zeros as no-frame}
 use Rattle.lookups.proofs.Chain.{sound-short, ends-by-65}
 use Rattle.lookups.proofs.Leaves.{leaf-seen}
 use Rattle.logic.proofs.Laws.{true-not}
@@ -95,7 +96,7 @@ leaf-looks n (falls f v a l h e) = (true-not h n)
 leaf-looks n (lands f v a l h e) = rw e tt
 leaf-looks n (takes f u v a l x) = leaf-serves n x
 
-pub answers-by : (m : Mode) (r : Looked) → Reads ⊥ r → Final m false r → Answers r
+answers-by : (m : Mode) (r : Looked) → Reads ⊥ r → Final m false r → Readable (committedBy r)
 answers-by m (Shared f) a z = frame f refl
 answers-by m Zero a z = no-frame refl
 answers-by m NoMemory a z = absurd a
@@ -103,9 +104,16 @@ answers-by m Stopped a z = absurd a
 answers-by m (Own f u) a z = absurd z
 answers-by m (New f) a z = absurd z
 
-pub read-answers : (L : ℕ) (p : Pool) → Sound L p → (M : List ℕ) (w : Work) (n i asker : ℕ) → Leaf (p .nodes) n → Answers (look L 64 (p .nodes) M w n i false asker .answer)
-read-answers L p sound M w n i asker leaf =
+-- so of an object's page, as its callers see it
+
+pub commit-quiet : (L : ℕ) (N M : List ℕ) (w : Work) (n i : ℕ) → let v = commitLeaf L N M w n i false .work in (v .used ≡ w .used) × (v .memory ≡ w .memory) × (v .told ≡ w .told)
+unfolding commitLeaf
+commit-quiet L N M w n i = let q = read-quiet L 64 N M w n i n in (q .used, q .memory, q .told)
+
+pub commit-answers : (L : ℕ) (p : Pool) → Sound L p → (M : List ℕ) (w : Work) (n i : ℕ) → Leaf (p .nodes) n → Readable (commitLeaf L (p .nodes) M w n i false .answer)
+unfolding commitLeaf
+commit-answers L p sound M w n i leaf =
     let m = today L (p .nodes) M in
-    let e = look-same m false w 64 (placeOf n i asker) in
-    answers-by m _ (read-sound L p sound M w n i asker .answer)
-    (rw e (leaf-looks (leaf-seen (nodeOf (p .nodes) n) leaf) (looks m false w 64 (placeOf n i asker))))
+    let e = look-same m false w 64 (placeOf n i n) in
+    answers-by m _ (read-sound L p sound M w n i n .answer)
+    (rw e (leaf-looks (leaf-seen (nodeOf (p .nodes) n) leaf) (looks m false w 64 (placeOf n i n))))

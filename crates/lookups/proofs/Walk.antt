@@ -16,13 +16,17 @@ use Rattle.node.specs.Node.{hiddenOf, sideOf}
 use Rattle.tables.specs.Tables.{slotAt}
 use Rattle.lookup.specs.declared.Looked.the-variants.{Shared, Zero, Stopped}
 use Rattle.lookup.specs.Work.{Work, lookingOf}
+use Rattle.tables.specs.Pool.{Pool}
+use Rattle.sound.specs.Facts.{Sound}
+use Rattle.lookup.specs.Lookup.{look}
+use Rattle.lookup.proofs.Same.{look-same}
 use Rattle.soundness.proofs.Ancestors.{above}
-use Rattle.lookups.proofs.Chain.{Short, above-next}
+use Rattle.lookups.proofs.Chain.{Short, sound-short, above-next, ends-by-65}
 use Rattle.logic.proofs.Laws.{true-not}
 use Rattle.lookup.specs.declared.Place.{Place}
-use Rattle.lookup.specs.Mode.{Mode, nodeAt, up, ups, bothAt, asks}
+use Rattle.lookup.specs.Mode.{Mode, today, placeOf, nodeAt, up, ups, bothAt, asks}
 use Rattle.lookup.specs.Level.{freshIn, childTold, shareIn, leafTold, serve}
-use Rattle.lookup.specs.Descent.{Way, way, further, walkBy, walk, top, lookup}
+use Rattle.lookup.specs.Descent.{Way, way, further, walkBy, walk, top, along, lookup}
 use Rattle.lookup.specs.declared.End.the-variants.{Has, Bare, Tired}
 use Rattle.lookup.proofs.Join.{descent-final}
 
@@ -94,3 +98,11 @@ module _ (m : Mode) (s : Short (m .nodes)) (P : List ℕ) where
   walk-ends (suc k) p z =
       tired-by (slotAt P (p .node) (p .page)) (asks m p) (further (walk m k P (up m p)))
       (λ a e. walk-ends k (up m p) (rw (← asked-up m p a) (sym (above-next s (suc k) (p .node)) ∙ z)) e)
+
+-- 64 parents asked are as good as any more
+pub chain-enough : (L : ℕ) (p : Pool) → Sound L p → (k : ℕ) (M : List ℕ) (w : Work) (node i : ℕ) (write : Bool) (asker : ℕ) → look L 64 (p .nodes) M w node i write asker ≡ look L (64 + k) (p .nodes) M w node i write asker
+chain-enough L p sound k M w node i write asker =
+    let m = today L (p .nodes) M in
+    let q = placeOf node i asker in
+    let s = sound-short L p sound in
+    look-same m write w 64 q ∙ ap (along m write w q) (sym (walk-spare m (w .pages) 64 k q (walk-ends m s (w .pages) 64 q (ends-by-65 s (node + 1))))) ∙ sym (look-same m write w (64 + k) q)

@@ -4,6 +4,8 @@ use mathlib.Core.Bool.{false}
 use Prim.Native.Nat.{ℕ}
 use Rattle.lookup.specs.declared.Looked.{Looked}
 use Rattle.lookup.specs.declared.Looked.the-variants.{Shared, Zero, Own, New, NoMemory, Stopped}
+use Rattle.lookup.specs.declared.Committed.{Committed}
+use Rattle.lookup.specs.declared.Committed.the-variants.{Frame, ZeroFrame}
 use Rattle.lookup.specs.Work.{Work, Looking}
 
 -- no frame is asked for and none is handed down of which mappings are to be told; it stops only if S
@@ -23,6 +25,6 @@ pub record Quiet (S : Type 0) (w : Work) (l : Looking) : Type 0 where
   pub told : l .work .told ≡ w .told
 
 -- a frame or the zero frame
-pub data Answers (r : Looked) : Type 0 where
-  frame : (f : ℕ) → r ≡ Shared f → Answers r
-  zeros : r ≡ Zero → Answers r
+pub data Readable (c : Committed) : Type 0 where
+  frame : (f : ℕ) → c ≡ Frame f → Readable c
+  zeros : c ≡ ZeroFrame → Readable c
