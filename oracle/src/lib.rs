@@ -5,6 +5,7 @@
 
 extern crate alloc;
 
+pub mod coverage;
 pub mod cowlines;
 pub mod generate;
 pub mod hash;
