@@ -16,6 +16,8 @@ struct Scale {
     mappings: u64,
     /// One page in so many is absent.
     absent: u64,
+    /// All nodes are of one size with whole windows, so that lookup goes all the way up.
+    whole: bool,
 }
 
 const SMALL: Scale = Scale {
@@ -24,6 +26,13 @@ const SMALL: Scale = Scale {
     size: 4,
     mappings: 4,
     absent: 2,
+    whole: false,
+};
+
+const DEEP: Scale = Scale {
+    frames: 64,
+    leaves: 32,
+    ..SMALL
 };
 
 const LARGE: Scale = Scale {
@@ -32,10 +41,19 @@ const LARGE: Scale = Scale {
     size: PAGES as u64,
     mappings: MAPPINGS as u64,
     absent: 4,
+    whole: false,
 };
 
 pub fn sound_pool(random: &mut Random) -> Snapshot {
-    let scale = if random.one_in(8) { &LARGE } else { &SMALL };
+    let scale = match random.below(8) {
+        0 => LARGE,
+        1 => DEEP,
+        _ => SMALL,
+    };
+    let scale = &Scale {
+        whole: random.one_in(3),
+        ..scale
+    };
     let frames = 1 + random.below(scale.frames) as usize;
     let mut state = State::fresh();
     state.next_owner = next_owner(random);
@@ -53,11 +71,12 @@ pub fn sound_pool(random: &mut Random) -> Snapshot {
     Snapshot { state, memory }
 }
 
-/// Most often few owners have been given; now and then all, or all but one.
+/// Most often few owners have been given; now and then all, all but one, or none.
 fn next_owner(random: &mut Random) -> u32 {
     match random.below(16) {
         0 => OWNERS_END,
         1 => OWNERS_END - 1,
+        2 => 1,
         _ => 2 + random.below(6) as u32,
     }
 }
@@ -103,14 +122,18 @@ fn join(state: &mut State, hidden: usize, children: [usize; 2]) {
     }
 }
 
+/// Window starts; the last is the most that all owners together allow.
+const STARTS: [u32; 9] = [0, 0, 0, 1, 2, 3, 60, 100_000, 64 * (OWNERS_END - 1)];
+
 fn fill_record(state: &mut State, n: usize, scale: &Scale, random: &mut Random) {
     let next = state.next_owner as u64;
     let words = &mut state.nodes[n];
-    let size = random.below(scale.size + 1);
-    // Whole windows from the start are common, so that pages are shared at all.
-    let whole = random.one_in(2);
-    let length = if whole { size } else { random.below(size + 1) };
-    let start = random.pick(&[0, 0, 0, 1, 2, 3, 60, 100_000]);
+    let (mut size, mut start) = (random.below(scale.size + 1), random.pick(&STARTS));
+    let cut = random.below(size + 1);
+    let mut length = random.pick(&[size, cut]);
+    if scale.whole {
+        (size, length, start) = (scale.size, scale.size, 0);
+    }
     words[SIZE] = size as u32;
     words[START] = start;
     words[END] = start + length as u32;
@@ -150,8 +173,10 @@ fn fill_pages(
         pins += entry.pins;
         state.nodes[n][ENTRIES + page] = entry.word();
     }
+    // A hidden node's own count is free.
     let more = random.pick(&[0, 0, 1, u32::MAX - pins]);
-    state.nodes[n][PINS] = pins + if may_pin { more } else { 0 };
+    let counts = may_pin || hidden && random.one_in(6);
+    state.nodes[n][PINS] = pins + if counts { more } else { 0 };
 }
 
 /// The starts of all windows may add up to 64 pages for each owner given.
