@@ -90,6 +90,14 @@ impl Counts {
         self.ways.get(&key).copied().unwrap_or(0)
     }
 
+    /// A way and how often it came, if it did.
+    fn show(&self, f: &mut fmt::Formatter<'_>, letter: char, way: &str) -> fmt::Result {
+        match self.of(letter, way) {
+            0 => Ok(()),
+            count => write!(f, "  {way}: {count}"),
+        }
+    }
+
     /// What is demanded and never came.
     pub fn missing(&self, demand: Demand) -> Vec<String> {
         let mut all = Vec::new();
@@ -131,25 +139,16 @@ impl fmt::Display for Counts {
             }
             let share = 100.0 * accepted as f64 / all as f64;
             write!(f, "{letter} {all:>9}, accepted {share:>5.1}%")?;
-            let refused = (1..=12).filter(|code| count(*code) > 0);
-            refused
-                .into_iter()
-                .try_for_each(|code| write!(f, "  {code}: {}", count(code)))?;
-            let words = WORDS.iter().filter(|word| self.of(letter, word) > 0);
-            words
-                .into_iter()
-                .try_for_each(|word| write!(f, "  {word}: {}", self.of(letter, word)))?;
+            for code in 1..=12 {
+                self.show(f, letter, &code.to_string())?;
+            }
+            for word in WORDS {
+                self.show(f, letter, word)?;
+            }
             writeln!(f)?;
         }
-        let Counts {
-            calls,
-            bad_lines,
-            notices,
-            ..
-        } = self;
-        write!(
-            f,
-            "{calls} calls and {notices} notices; {bad_lines} bad lines"
-        )
+        let (calls, notices) = (self.calls, self.notices);
+        write!(f, "{calls} calls and {notices} notices; ")?;
+        write!(f, "{} bad lines", self.bad_lines)
     }
 }
