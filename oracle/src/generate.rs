@@ -47,7 +47,7 @@ pub struct Generator {
     focus: u64,
 }
 
-/// What the words SEED CALLS [LETTERS [FRAMES]] ask for; none if they are bad.
+/// What the words `SEED CALLS [LETTERS [FRAMES]]` ask for; none if they are bad.
 pub fn asked(words: &[String]) -> Option<(Generator, u64)> {
     let number = |i: usize| words.get(i).map(|word| word.parse::<u64>().ok());
     let (seed, calls) = (number(0)??, number(1)??);

@@ -5,6 +5,7 @@
 
 extern crate alloc;
 
+pub mod coverage;
 pub mod cowlines;
 pub mod generate;
 pub mod hash;
@@ -13,6 +14,7 @@ pub mod lines;
 pub mod pool;
 pub mod random;
 pub mod sound;
+pub mod sound_pools;
 pub mod state;
 pub mod trace;
 pub mod util;

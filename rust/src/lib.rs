@@ -41,7 +41,7 @@ mod done;
 #[allow(unsafe_code)]
 pub mod ffi;
 mod names;
-mod notices;
+pub mod notices;
 pub mod picture;
 mod pool;
 mod refusal;
@@ -50,9 +50,9 @@ pub mod tables;
 
 pub use done::{CutShort, Done};
 pub use names::{Mapping, Object};
-pub use notices::{Notice, Notices};
+pub use notices::{Notice, Notices, Operation};
 pub use pool::Pool;
 pub use refusal::Refusal;
 pub use tables::{Store, Tables, View};
 pub use tables::{HEAD_LEN, MAPPINGS_LEN, NODES_LEN, PAGES_LEN};
-pub use tables::{MAPPINGS, MAX_FRAMES, MAX_PAGES, NODES, PAGE_SIZE};
+pub use tables::{MAPPINGS, MAX_FRAMES, MAX_NOTICES, MAX_PAGES, NODES, PAGE_SIZE};

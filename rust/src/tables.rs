@@ -11,12 +11,17 @@ pub const NODES: usize = 64;
 /// The most live mappings of a pool.
 pub const MAPPINGS: usize = 64;
 
+/// The most notices that a call can send: one for each page of an object and each live mapping.
+pub const MAX_NOTICES: usize = MAX_PAGES as usize * MAPPINGS;
+
 /// Words of a node's record.
 pub const NODE_WORDS: usize = 16;
 /// Page entries of a node.
 pub const ROW_WORDS: usize = 64;
 /// Words of a mapping.
 pub const MAPPING_WORDS: usize = 4;
+/// Words of a notice: mapping, first page in it, pages, operation.
+pub const NOTICE_WORDS: usize = 4;
 
 /// Length of the table of node records.
 pub const NODES_LEN: usize = NODES * NODE_WORDS;

@@ -6,7 +6,7 @@ use common::ladder::{climb, Case, Step};
 use common::*;
 use goramul::ffi;
 use goramul::tables::node;
-use goramul::{Notice, Notices, Object, Pool, Refusal, PAGE_SIZE};
+use goramul::{Mapping, Notice, Notices, Object, Operation, Pool, Refusal, PAGE_SIZE};
 
 const STEPS: [Step; 11] = [
     (Refusal::BadPool, |c| c.store.used[7] = 0),
@@ -110,10 +110,10 @@ fn the_objects_mappings_are_told_of_the_childs_range() {
     pool.create_child(object, 3 * PAGE_SIZE, 2 * PAGE_SIZE, &mut list)
         .unwrap();
     let told = |mapping, first, pages| Notice {
-        mapping,
+        mapping: Mapping::from_number(mapping),
         first,
         pages,
-        op: 2,
+        operation: Operation::RemoveWrite,
     };
     let came: Vec<Notice> = list.iter().collect();
     assert_eq!(came, [told(0, 3, 2), told(2, 0, 1)]);

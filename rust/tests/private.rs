@@ -27,7 +27,7 @@ impl Side {
         Side {
             pool: Pool::start(1 + r.index(most)).unwrap(),
             r,
-            list: Notices::with_room(4096),
+            list: Notices::enough(),
             others: Vec::new(),
             object: None,
         }

@@ -4,7 +4,8 @@ mod common;
 
 use common::*;
 use goramul::tables::{node, NODE_WORDS};
-use goramul::{CutShort, Done, Notice, Notices, Object, Pool, Refusal, PAGE_SIZE};
+use goramul::{CutShort, Done, Mapping, Notice, Notices, Object, Operation, Pool};
+use goramul::{Refusal, PAGE_SIZE};
 
 fn short(why: Refusal, bytes: u64, frames: u64) -> CutShort {
     let done = Done { bytes, frames };
@@ -106,10 +107,10 @@ fn notices_of_a_refused_write_are_given() {
     let ended = pool.write(objects[2], 0, &[2], &mut list);
     assert_eq!(ended, Err(short(Refusal::NoMemory, 0, 1)));
     let unmap = |mapping| Notice {
-        mapping,
+        mapping: Mapping::from_number(mapping),
         first: 0,
         pages: 1,
-        op: 1,
+        operation: Operation::Unmap,
     };
     assert_eq!(list.iter().collect::<Vec<_>>(), [unmap(1)]);
 
@@ -121,7 +122,7 @@ fn notices_of_a_refused_write_are_given() {
     assert_eq!(ended.map(|done| done.frames), Ok(2));
     assert_eq!(list.iter().collect::<Vec<_>>(), [unmap(1), unmap(2)]);
     pool.write(objects[2], 1, &[2], &mut list).unwrap();
-    assert_eq!(list.iter().count(), 0);
+    assert!(list.is_empty());
 }
 
 /// Document 01's P7: a child of one page, grown to two and cloned. Its second page is outside what

@@ -1,4 +1,4 @@
-//! generate SEED CALLS [LETTERS [FRAMES]]: prints a random trace, the same for the same words.
+//! `generate SEED CALLS [LETTERS [FRAMES]]`: prints a random trace, the same for the same words.
 //! LETTERS are the only letters of calls in it, FRAMES the most frames of a pool (1,024).
 
 use oracle::generate::{asked, Generator};

@@ -1,4 +1,4 @@
-//! survey SEED CALLS [LETTERS [FRAMES]]: what the trace that `generate` prints for these words is
+//! `survey SEED CALLS [LETTERS [FRAMES]]`: what the trace that `generate` prints for these words is
 //! made of. A row for each letter, then where calls ran out of frames.
 
 use oracle::generate::{asked, Generator};

@@ -32,7 +32,7 @@ pub fn load(pool: &mut Pool<'_>, from: &oracle::pool::Pool) {
         *flag = used.into();
     }
     tables.memory.copy_from_slice(&mem::all_bytes());
-    assert!(pool.is_sound(), "the Rust leaves a sound pool");
+    assert!(pool.is_sound(), "the Rust has a sound pool");
 }
 
 fn load_node(tables: &mut Tables<'_>, n: usize, words: &Words) {
@@ -43,10 +43,12 @@ fn load_node(tables: &mut Tables<'_>, n: usize, words: &Words) {
     row.copy_from_slice(&words[state::ENTRIES..][..ROW_WORDS]);
 }
 
-/// Object by object: only the order of an object's own mappings is told.
+/// The first of each object, then the second: only the order of an object's own mappings is told.
 fn load_mappings(mappings: &mut [u32], state: &State) {
     mappings.fill(0);
-    let numbers = state.lists.iter().flatten();
+    let rounds = state.lists.iter().map(Vec::len).max().unwrap_or(0);
+    let round = |nth| state.lists.iter().filter_map(move |list| list.get(nth));
+    let numbers = (0..rounds).flat_map(round);
     for (place, number) in mappings.chunks_exact_mut(MAPPING_WORDS).zip(numbers) {
         let mapping = state.mappings[*number].expect("a list has live mappings");
         let words = [number + 1, mapping.object, mapping.first, mapping.pages];

@@ -2,7 +2,7 @@
 
 use super::common::random::Random;
 use super::{Asked, World, PAGE};
-use goramul::{CutShort, Done, Notice, Notices, Object, Refusal};
+use goramul::{CutShort, Done, Notice, Notices, Object, Operation, Refusal};
 
 impl World {
     pub fn birth(&mut self, r: &mut Random) {
@@ -42,7 +42,7 @@ impl World {
         });
         assert_eq!(made.err(), against);
         self.count(against);
-        self.notices(&list, 2, 1);
+        self.notices(&list, Operation::RemoveWrite, 1);
         if let Ok(child) = made {
             let of = &self.arrays[&asked.object.number()];
             let part = of[offset as usize..][..len as usize].to_vec();
@@ -76,7 +76,7 @@ impl World {
             pool.write(object, offset, &bytes, &mut list)
         });
         let done = self.ended(ended, against, free);
-        self.notices(&list, 1, touched);
+        self.notices(&list, Operation::Unmap, touched);
         if done.bytes > 0 {
             let written = &bytes[..done.bytes as usize];
             let array = self.arrays.get_mut(&object.number()).unwrap();
@@ -100,7 +100,7 @@ impl World {
         let ended = self.call(against, |pool| pool.commit(object, offset, len, &mut list));
         let done = self.ended(ended, against, free);
         assert_eq!(done.bytes, 0);
-        self.notices(&list, 1, len / PAGE);
+        self.notices(&list, Operation::Unmap, len / PAGE);
     }
 
     /// Frames taken are the fall of the free count, and NO_MEMORY comes only where none is left.
@@ -126,12 +126,12 @@ impl World {
     }
 
     /// Each notice is to a live mapping; there are no more than pages times mappings.
-    fn notices(&mut self, list: &Notices, op: u32, pages: u64) {
-        let told: Vec<Notice> = list.iter().collect();
-        assert!(told.len() as u64 <= pages * self.mappings);
-        let fits = |n: &Notice| u64::from(n.mapping) < self.mappings && n.pages > 0 && n.op == op;
-        assert!(told.iter().all(fits));
-        self.seen.notices += told.len();
+    fn notices(&mut self, list: &Notices, operation: Operation, pages: u64) {
+        assert!(list.len() as u64 <= pages * self.mappings);
+        let live = |n: Notice| n.mapping.number() < self.mappings;
+        let fits = |n: Notice| live(n) && n.pages > 0 && n.operation == operation;
+        assert!(list.iter().all(fits));
+        self.seen.notices += list.len();
     }
 
     pub fn map(&mut self, r: &mut Random, object: Object) {

@@ -54,10 +54,10 @@ impl Case {
         reset(pool, before);
         work(pool, buffers);
         reset(pool, before);
-        times[0].add(|| work(pool, buffers));
+        times[0].add(1, || work(pool, buffers));
         reset(pool, before);
         reference.1(pool, buffers);
-        times[1].add(|| reference.1(pool, buffers));
+        times[1].add(1, || reference.1(pool, buffers));
     }
 }
 
@@ -73,7 +73,7 @@ fn reset(pool: &mut Store, before: &Store) {
 pub fn header() -> String {
     let quartiles = "quartiles, µs";
     format!(
-        "{:<39} ratio  goal  {quartiles:>20}  {:<18} {quartiles:>20}",
+        "{:<39} ratio  goal  {quartiles:>23}  {:<18} {quartiles:>23}",
         "", "beside"
     )
 }

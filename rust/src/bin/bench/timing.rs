@@ -8,11 +8,11 @@ use std::time::{Duration, Instant};
 pub struct Times(Vec<Duration>);
 
 impl Times {
-    /// Times the work once more.
-    pub fn add(&mut self, work: impl FnOnce()) {
+    /// Times the work once more, so many times in a row.
+    pub fn add(&mut self, times: u32, mut work: impl FnMut()) {
         let start = Instant::now();
-        work();
-        self.0.push(start.elapsed());
+        (0..times).for_each(|_| work());
+        self.0.push(start.elapsed() / times);
     }
 
     /// How long this takes of the other, by the medians.
@@ -32,6 +32,6 @@ impl Times {
 impl fmt::Display for Times {
     fn fmt(&self, f: &mut fmt::Formatter<'_>) -> fmt::Result {
         let [low, median, high] = self.quartiles().map(|time| 1e6 * time.as_secs_f64());
-        write!(f, "{low:>6.2} {median:>6.2} {high:>6.2}")
+        write!(f, "{low:>7.3} {median:>7.3} {high:>7.3}")
     }
 }

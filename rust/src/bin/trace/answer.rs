@@ -56,12 +56,8 @@ impl Answer {
         } = self;
         write!(to, "{code} {value} {taken} {report} {}", notices.len())?;
         for notice in notices {
-            let Notice {
-                mapping,
-                first,
-                pages,
-                op,
-            } = notice;
+            let Notice { first, pages, .. } = notice;
+            let (mapping, op) = (notice.mapping.number(), notice.operation.number());
             write!(to, " {mapping} {first} {pages} {op}")?;
         }
         Ok(())

@@ -4,11 +4,10 @@ use crate::answer::Answer;
 use crate::calls;
 use crate::lines::fields;
 use goramul::report::Report;
-use goramul::{Notices, Pool, Refusal};
+use goramul::{Notices, Pool, Refusal, MAX_NOTICES};
 
 const BAD_LINE: &str = "3 0";
 const FRAMES_AT_FIRST: usize = 6;
-const MOST_NOTICES: u64 = 4096;
 
 pub struct Driver {
     pub pool: Pool<'static>,
@@ -20,7 +19,7 @@ impl Default for Driver {
     fn default() -> Self {
         Driver {
             pool: Pool::start(FRAMES_AT_FIRST).expect("a pool can have so many frames"),
-            notices: Notices::with_room(MOST_NOTICES as usize),
+            notices: Notices::enough(),
         }
     }
 }
@@ -52,7 +51,7 @@ impl Driver {
     }
 
     pub fn set_room(&mut self, room: u64) -> Answer {
-        if room > MOST_NOTICES {
+        if room > MAX_NOTICES as u64 {
             return Answer::plain(Err(Refusal::InvalidArgs));
         }
         self.notices = Notices::with_room(room as usize);
