@@ -142,12 +142,12 @@ module _ {N : List ℕ} (s : Short N) {next : ℕ} (tree : Tree N next) (M : Lis
 
   node-heard : (k node a e : ℕ) → ((c : ℕ) → Hears k c) → (b : Bool) → hiddenOf (nodeOf N node) ≡ b → Heard M (Below N node)
       (λ t. pick b
-      (rangeChange k N M (childOf (nodeOf N node .right)) a e op (rangeChange k N M (childOf (nodeOf N node .left)) a e op (tellObject M t 64 node a (e - a) op)))
-      (tellObject M t 64 node a (e - a) op))
+      (rangeChange k N M (childOf (nodeOf N node .right)) a e op (rangeChange k N M (childOf (nodeOf N node .left)) a e op (tellObject M t 64 node a e op)))
+      (tellObject M t 64 node a e op))
   node-heard k node a e ih true t =
       heard-then (λ o p q. q .0 p) (λ o p. rw p (self node)) (λ o q. q .1)
-      (object-heard M node a (e - a) op) (children-heard k node a e (eqb-true _ _ t) ih)
-  node-heard k node a e ih false t = heard-in (λ o p. rw p (self node)) (object-heard M node a (e - a) op)
+      (object-heard M node a e op) (children-heard k node a e (eqb-true _ _ t) ih)
+  node-heard k node a e ih false t = heard-in (λ o p. rw p (self node)) (object-heard M node a e op)
 
   pub range-heard : (k node : ℕ) → Hears k node
   unfolding rangeChange

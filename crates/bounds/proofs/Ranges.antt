@@ -41,7 +41,7 @@ module _ {N : List ℕ} (s : Short N) {next : ℕ} (tree : Tree N next) (M : Lis
       let n = nodeOf N node in
       let a = lowIn n lo - n .«parent_offset» in
       let e = highIn n hi - n .«parent_offset» in
-      let told = tellObject M t 64 node a (e - a) op in
+      let told = tellObject M t 64 node a e op in
       let q : suc k + j ≡ suc (k + j) = omega arith in
       rw q (ap (λ (x : Told). pick (ltb (lowIn n lo) (highIn n hi)) x t) (by a e told (hiddenOf n) refl))
     where

@@ -1,5 +1,5 @@
 -- No notice is lost: a lookup sends at most one for each live mapping, and a list with room for these takes them all. Assumes nothing.
-use mathlib.Core.Path.{_≡_}
+use mathlib.Core.Path.{_≡_, ap}
 use mathlib.Core.Bool.{Bool}
 use mathlib.Core.List.{List}
 use Prim.Native.Nat.{ℕ, suc, _+_, _*_, _/_, _≤_}
@@ -10,8 +10,9 @@ use Rattle.tables.specs.Tables.{nodeOf}
 use Rattle.outcome.specs.Told.{Told}
 use Rattle.notices.specs.Notices.{tellObject, rangeChange}
 use Rattle.sound.specs.Facts.{Leaf, Sound}
-use Rattle.lookup.specs.Work.{Work, Looking}
-use Rattle.lookup.specs.Lookup.{withTold, look}
+use Rattle.lookup.specs.Work.{Work}
+use Rattle.lookup.specs.Level.{withTold}
+use Rattle.lookup.specs.Commit.{committedBy, Committing, committing, commitLeaf}
 use Rattle.outcome.specs.Room.{liveCount}
 use Rattle.bounds.specs.Telling.{Tells, Sends, Wrote, Added}
 use Rattle.lookups.proofs.Leaves.{leaf-seen}
@@ -30,7 +31,7 @@ module _ {step : Told → Told} {most : ℕ} (s : Tells step most) (t : Told) wh
   pub told-added : t .count + most ≤ length (t .list) / 4 → Added t (s .notices) (step t)
   told-added room = let f = s .few in rw (s .same t) (all-added (s .notices) t (omega arith))
 
-module _ {step : Told → Looking} {most : ℕ} (s : Sends step most) (t : Told) where
+module _ {step : Told → Committing} {most : ℕ} (s : Sends step most) (t : Told) where
   pub sent-wrote : Wrote t most (step t .work .told)
   sent-wrote = let f = s .few in rw (s .same t) (wrote-in f (all-wrote (s .notices) t))
 
@@ -58,23 +59,24 @@ pub range-room : (L : ℕ) (p : Pool) → Sound L p → (M : List ℕ) (node lo 
 range-room L p sound M node lo hi op = heard-tells M _ (range-heard (sound-short L p sound) (sound .tree) M op 64 node lo hi)
 
 -- a page lookup from a leaf
-pub room-enough : (L : ℕ) (p : Pool) → Sound L p → (M : List ℕ) (w : Work) (l i : ℕ) (write : Bool) → Leaf (p .nodes) l → Sends (λ t. look L 64 (p .nodes) M (withTold w t) l i write l) (liveCount M)
+pub room-enough : (L : ℕ) (p : Pool) → Sound L p → (M : List ℕ) (w : Work) (l i : ℕ) (write : Bool) → Leaf (p .nodes) l → Sends (λ t. commitLeaf L (p .nodes) M (withTold w t) l i write) (liveCount M)
+unfolding commitLeaf
 room-enough L p sound M w l i write leaf =
     let s =
     leaf-sent L (sound-short L p sound) (sound .tree) M (w .pages) (w .used) (w .memory) write 63 l i (leaf-seen (nodeOf (p .nodes) l) leaf) in
     record {
-      answer = s .answer;
+      answer = committedBy (s .answer);
       pages = s .pages;
       used = s .used;
       memory = s .memory;
       notices = s .notices;
       few = once-few (s .once);
-      same = s .same;
+      same = λ t. ap committing (s .same t);
     }
 
 -- with room for one notice for each live mapping, each that is due stands in the list; and without it nothing is written past the count
-pub none-lost : (L : ℕ) (p : Pool) (sound : Sound L p) (M : List ℕ) (w : Work) (l i : ℕ) (write : Bool) (leaf : Leaf (p .nodes) l) → w .told .count + liveCount M ≤ length (w .told .list) / 4 → Added (w .told) (room-enough L p sound M w l i write leaf .notices) (look L 64 (p .nodes) M w l i write l .work .told)
+pub none-lost : (L : ℕ) (p : Pool) (sound : Sound L p) (M : List ℕ) (w : Work) (l i : ℕ) (write : Bool) (leaf : Leaf (p .nodes) l) → w .told .count + liveCount M ≤ length (w .told .list) / 4 → Added (w .told) (room-enough L p sound M w l i write leaf .notices) (commitLeaf L (p .nodes) M w l i write .work .told)
 none-lost L p sound M w l i write leaf = sent-added (room-enough L p sound M w l i write leaf) (w .told)
 
-pub look-wrote : (L : ℕ) (p : Pool) → Sound L p → (M : List ℕ) (w : Work) (l i : ℕ) (write : Bool) → Leaf (p .nodes) l → Wrote (w .told) (liveCount M) (look L 64 (p .nodes) M w l i write l .work .told)
+pub look-wrote : (L : ℕ) (p : Pool) → Sound L p → (M : List ℕ) (w : Work) (l i : ℕ) (write : Bool) → Leaf (p .nodes) l → Wrote (w .told) (liveCount M) (commitLeaf L (p .nodes) M w l i write .work .told)
 look-wrote L p sound M w l i write leaf = sent-wrote (room-enough L p sound M w l i write leaf) (w .told)

@@ -5,8 +5,9 @@ use Prim.Native.Nat.{ℕ, _+_, _*_, _≤_, _<_}
 use lib.ListN.{length, getD}
 use Rattle.outcome.specs.declared.notice.Notice.{Notice}
 use Rattle.outcome.specs.Told.{Told, noticeBy, putNotice}
-use Rattle.lookup.specs.declared.Looked.{Looked}
-use Rattle.lookup.specs.Work.{workOf, Looking, lookingOf}
+use Rattle.lookup.specs.declared.Committed.{Committed}
+use Rattle.lookup.specs.Work.{workOf}
+use Rattle.lookup.specs.Commit.{Committing, committingOf}
 
 -- the notices put one after the other
 unfoldable pub putAll : Told → List Notice → Told
@@ -20,14 +21,14 @@ pub record Tells (step : Told → Told) (most : ℕ) : Type 0 where
   pub same : (t : Told) → step t ≡ putAll t notices
 
 -- the same of a lookup, whose answer, page entries, frames and bytes don't depend on the list either
-pub record Sends (step : Told → Looking) (most : ℕ) : Type 0 where
-  pub answer : Looked
+pub record Sends (step : Told → Committing) (most : ℕ) : Type 0 where
+  pub answer : Committed
   pub pages : List ℕ
   pub used : List ℕ
   pub memory : List ℕ
   pub notices : List Notice
   pub few : length notices ≤ most
-  pub same : (t : Told) → step t ≡ lookingOf answer (workOf pages used memory (putAll t notices))
+  pub same : (t : Told) → step t ≡ committingOf answer (workOf pages used memory (putAll t notices))
 
 -- the notice at place c of a list
 abbrev pub noticeIn : List ℕ → ℕ → Notice

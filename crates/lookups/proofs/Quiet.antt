@@ -115,5 +115,5 @@ unfolding commitLeaf
 commit-answers L p sound M w n i leaf =
     let m = today L (p .nodes) M in
     let e = look-same m false w 64 (placeOf n i n) in
-    answers-by m _ (read-sound L p sound M w n i n .answer)
+    answers-by m (look L 64 (p .nodes) M w n i false n .answer) (read-sound L p sound M w n i n .answer)
     (rw e (leaf-looks (leaf-seen (nodeOf (p .nodes) n) leaf) (looks m false w 64 (placeOf n i n))))
