@@ -39,7 +39,7 @@ unfolding pool needs sumBelow need needAbove nodeOf recordOf wordOf slotAt slotO
 three-frames = refl
 
 two-written : (run .answer ≡ Refused NoMemory) × (_≡_ {A = ℕ} (run .done) 5) × (_≡_ {A = ℕ} (run .taken) 2) × (run .pool .memory ≡ 0 ∷ 0 ∷ 0 ∷ 1 ∷ 2 ∷ 3 ∷ 4 ∷ 5 ∷ [])
-unfolding run pool writeThrough written rangedBy writeRange each onward writePage writeBy wrotePage storedBy nextOf nextBy blockEnd countOf pagesOf look enter asksOf fresh freshBy cleared settle settleBy leafTold handedBy nodeOf recordOf wordOf slotAt slotOf stateOf tagOf entryOf withEntry withState entryWord outOf idleOf oneIdle freeCount freeFrameIn firstFrom sumBelow pastedAt copied clearedAt zeroed
+unfolding run pool writeThrough written rangedBy writeRange each onward writePage writeBy wrotePage storedBy nextOf nextBy blockEnd countOf pagesOf look enter asksOf fresh freshBy cleared settle settleBy leafTold handedBy nodeOf recordOf wordOf slotAt slotOf stateOf tagOf entryOf withEntry withState entryWord outOf idleOf oneIdle freeCount freeFrameIn firstFrom sumBelow pastedAt copied blankAt clearedAt zeroed
 two-written = (refl, refl, refl, refl)
 
 -- what is read of it again: the bytes written, and zeros

@@ -32,8 +32,8 @@ module _ (L : ℕ) (p : Pool) (is-sound : sound L p ≡ true) where
   facts = sound-facts L p is-sound
 
   -- what the tables' facts say of the test
-  tested : (w : Work) → Fits L p facts w → sound L (poolWith p w) ≡ true
-  tested w f = facts-sound L (poolWith p w) (fits-sound L p facts w f)
+  passes : (w : Work) → Fits L p facts w → sound L (poolWith p w) ≡ true
+  passes w f = facts-sound L (poolWith p w) (fits-sound L p facts w f)
 
   -- a call that its tests refuse leaves the pool as it was
   kept-by : {R : Type 0} {refuse : Refusal → R} (pool : R → Pool) → ((why : Refusal) → pool (refuse why) ≡ p) → {r : R} → Called refuse (λ r. sound L (pool r) ≡ true) r → sound L (pool r) ≡ true
@@ -47,7 +47,7 @@ module _ (L : ℕ) (p : Pool) (is-sound : sound L p ≡ true) where
       (called (refused p [] buf) (λ r. sound L (r .pool) ≡ true) (Inside L (p .nodes) object offset (length buf)) L p object (λ n. againstReading L (p .nodes) n offset (length buf))
       (λ n. filled p (readRange L (p .nodes) (p .mappings) n offset (readOf (p .pages) (p .used) (p .memory) buf))) is-sound
       (reading-tests L (p .nodes) object offset (length buf))
-      (λ leaf inside. tested _ (read-fits L p facts object leaf offset (readOf (p .pages) (p .used) (p .memory) buf) inside (fits-first L p facts _))))
+      (λ leaf inside. passes _ (read-fits L p facts object leaf offset (readOf (p .pages) (p .used) (p .memory) buf) inside (fits-first L p facts _))))
 
   pub write-sound : (list : List ℕ) (object offset : ℕ) (bytes : List ℕ) → sound L (write L p list object offset bytes .pool) ≡ true
   unfolding writeAt writeThrough written rangedBy
@@ -56,7 +56,7 @@ module _ (L : ℕ) (p : Pool) (is-sound : sound L p ≡ true) where
       (called (refused p list []) (λ r. sound L (r .pool) ≡ true) (Inside L (p .nodes) object offset (length bytes)) L p object
       (λ n. againstWriting L (p .nodes) (p .mappings) list n offset (length bytes)) (λ n. writeThrough L p list n offset bytes) is-sound
       (writing-tests L (p .nodes) object offset (length bytes) (p .mappings) list)
-      (λ leaf inside. tested _ (write-fits L p facts object leaf offset bytes inside (workIn p list) (fits-first L p facts (toldOf list 0)))))
+      (λ leaf inside. passes _ (write-fits L p facts object leaf offset bytes inside (workIn p list) (fits-first L p facts (toldOf list 0)))))
 
   pub commit-sound : (list : List ℕ) (object offset len : ℕ) → sound L (commit L p list object offset len .pool) ≡ true
   unfolding commitAt commitThrough committed rangedBy
@@ -65,7 +65,7 @@ module _ (L : ℕ) (p : Pool) (is-sound : sound L p ≡ true) where
       (called (refused p list []) (λ r. sound L (r .pool) ≡ true) (Inside L (p .nodes) object offset len) L p object
       (λ n. againstCommitting L (p .nodes) (p .mappings) list n offset len) (λ n. commitThrough L p list n offset len) is-sound
       (committing-tests L (p .nodes) object offset len (p .mappings) list)
-      (λ leaf inside. tested _
+      (λ leaf inside. passes _
       (commit-fits L p facts object leaf (offset / L) (len / L) (pages-inside L offset len (nodeOf (p .nodes) object .size) inside) (workIn p list) (fits-first L p facts (toldOf list 0)))))
 
   pub page-sound : (list : List ℕ) (object page : ℕ) (write : Bool) → sound L (One.commitPage L p list object page write .pool) ≡ true
@@ -78,4 +78,4 @@ module _ (L : ℕ) (p : Pool) (is-sound : sound L p ≡ true) where
       (page-tests (p .nodes) (p .mappings) list object page write)
       (λ leaf low.
       let s = facts .tree .sizes object in
-      tested _ (look-fits L p facts (workOf (p .pages) (p .used) (p .memory) (toldOf list 0)) (fits-first L p facts (toldOf list 0)) write object (page % 4294967296) leaf (omega arith))))
+      passes _ (look-fits L p facts (workOf (p .pages) (p .used) (p .memory) (toldOf list 0)) (fits-first L p facts (toldOf list 0)) write object (page % 4294967296) leaf (omega arith))))

@@ -69,7 +69,7 @@ module _ (L : ℕ) (zero : List ℕ) (good : zeroPageOf L zero ≡ true) where
 module _ (L : ℕ) (m : List ℕ) (f : ℕ) (room : f * L + L ≤ length m) where
   frame-is : frameBytes L m f ≡ take L (drop (f * L) m)
   unfolding frameBytes
-  frame-is = let e : f * L + L - f * L ≡ L = omega arith in rw (le-leb (f * L + L) (length m) room, e)
+  frame-is = rw (le-leb (f * L + L) (length m) room)
 
   pub frame-length : length (frameBytes L m f) ≡ L
   frame-length = ap length frame-is ∙ part-length m (f * L) L room
