@@ -86,9 +86,9 @@ module _ (L : ℕ) (A : ℕ → ℕ → ℕ → ℕ) (n offset : ℕ) (bytes : L
         (λ past. put-after old n i at c bytes d k (omega arith) ∙ write-more d c n i k (λ x y. omega arith)))
 
     pub write-block : (m j k : ℕ) → k < L → put old n i at c bytes d m j k ≡ writeArray L A n offset bytes (d + c) m j k
-    write-block m j k h = by (place m j n i)
+    write-block m j k h = by (spot m j n i)
       where
-        by : Place m j n i → put old n i at c bytes d m j k ≡ writeArray L A n offset bytes (d + c) m j k
+        by : Spot m j n i → put old n i at c bytes d m j k ≡ writeArray L A n offset bytes (d + c) m j k
         by (there x y) = rw (x, y) (in-page k)
         by (elsewhere ne) =
             put-other old n i at c bytes d m j k ne

@@ -1,5 +1,5 @@
 -- A commit of pages keeps every array, and is refused exactly if the pages need more frames than are free. Assumes nothing.
-use mathlib.Core.Path.{_≡_, refl, sym, subst}
+use mathlib.Core.Path.{_≡_, refl, sym, ap, subst}
 use mathlib.Core.Bool.{true}
 use mathlib.Core.List.{List}
 use mathlib.Core.Logic.{inl, inr, ⊎-elim}
@@ -9,13 +9,13 @@ use native.Mathlib.Nat.{div-mul-le-self, div-zero, add-mul, le-of-mul-le-mul-rig
 use Rattle.logic.proofs.Means.{less, split}
 use Rattle.tables.specs.Pool.{Pool}
 use Rattle.tables.specs.Tables.{nodeOf}
-use Rattle.lookup.specs.declared.Looked.{Looked}
-use Rattle.lookup.specs.declared.Looked.the-variants.{Shared, Zero, Own, New, NoMemory, Stopped}
-use Rattle.lookup.specs.Work.{Work, lookingOf}
-use Rattle.lookup.specs.Lookup.{look}
+use Rattle.lookup.specs.declared.Committed.{Committed}
+use Rattle.lookup.specs.declared.Committed.the-variants.{Frame, ZeroFrame, Refused}
+use Rattle.lookup.specs.Work.{Work}
+use Rattle.lookup.specs.Commit.{Committing, committingOf, commitLeaf}
 use Rattle.sound.specs.Facts.{Leaf}
 use Rattle.outcome.specs.declared.answer.Against.{Against}
-use Rattle.outcome.specs.declared.answer.Against.the-variants.{Nothing as Fine}
+use Rattle.outcome.specs.declared.answer.Against.the-variants.{Why, Nothing as Fine}
 use Rattle.page.specs.Each.{Part, partOf}
 use Rattle.page.specs.Pages.{againstWrite, restBy, committedOne, commitOne}
 use Rattle.ranges.specs.Ranges.{workIn, rangedBy, commitRange, committed, commitThrough}
@@ -45,16 +45,13 @@ module _ (L : ℕ) (A : ℕ → ℕ → ℕ → ℕ) (p : Pool) (n first pages :
   abbrev Next : ℕ → Against → Part ℕ Work → Type 0
   Next k a q = Goes (commitOne L (p .nodes) (p .mappings) n) Before After k a q
 
-  turn-by : (k d : ℕ) (w : Work) → d + suc k ≡ pages → Private L A (poolWith p w) → Spent p n first d w → (z : Looked) (v : Work) → Kept L A (poolWith p w) (w .told) n (first + d) true (lookingOf z v)
+  turn-by : (k d : ℕ) (w : Work) → d + suc k ≡ pages → Private L A (poolWith p w) → Spent p n first d w → (z : Committed) (v : Work) → Kept L A (poolWith p w) (w .told) n (first + d) true (committingOf z v)
       → Next k (againstWrite z) (partOf (againstWrite z) (restBy (againstWrite z) (first + d) (first + d + 1)) v)
-  turn-by k d w e P s (Shared f) v K =
-      record { done = suc d; here = omega arith; all-pages = omega arith; private = K .private; spent = spent-more p n first L A d w P s (lookingOf (Shared f) v) K (K .answers) }
-  turn-by k d w e P s NoMemory v K =
-      record { private = K .private; ends = out d refl (spent-out p n first L A d w P s (lookingOf NoMemory v) K pages (omega arith) (K .answers)) tt }
-  turn-by k d w e P s Zero v K = absurd (true-not refl (K .answers .reading))
-  turn-by k d w e P s (Own f u) v K = absurd (K .answers)
-  turn-by k d w e P s (New f) v K = absurd (K .answers)
-  turn-by k d w e P s Stopped v K = absurd (K .answers)
+  turn-by k d w e P s (Frame f) v K =
+      record { done = suc d; here = omega arith; all-pages = omega arith; private = K .private; spent = spent-more p n first L A d w P s (committingOf (Frame f) v) K (K .answers) }
+  turn-by k d w e P s (Refused r) v K =
+      record { private = K .private; ends = out d (ap Why (K .answers .answer)) (spent-out p n first L A d w P s (committingOf (Refused r) v) K pages (omega arith) (K .answers)) tt }
+  turn-by k d w e P s ZeroFrame v K = true-not refl (K .answers .reading)
 
   turn : (k i : ℕ) (w : Work) → Before (suc k) i w → Next k (commitOne L (p .nodes) (p .mappings) n i w .why) (commitOne L (p .nodes) (p .mappings) n i w)
   unfolding commitOne committedOne
@@ -62,7 +59,7 @@ module _ (L : ℕ) (A : ℕ → ℕ → ℕ → ℕ) (p : Pool) (n first pages :
       let d = b .done in
       let m = b .all-pages in
       subst (λ (j : ℕ). Next k (commitOne L (p .nodes) (p .mappings) n j w .why) (commitOne L (p .nodes) (p .mappings) n j w)) (sym (b .here))
-      (let l = look L 64 (p .nodes) (p .mappings) w n (first + d) true n in
+      (let l = commitLeaf L (p .nodes) (p .mappings) w n (first + d) true in
       turn-by k d w m (b .private) (b .spent) (l .answer) (l .work) (look-goes-on L A p w (b .private) n (first + d) true leaf (omega arith)))
 
   ends : (i : ℕ) (w : Work) → Before 0 i w → After (partOf Fine i w)

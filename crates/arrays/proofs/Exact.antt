@@ -13,7 +13,7 @@ use Rattle.outcome.specs.declared.answer.Answer.the-variants.{Done, Refused}
 use Rattle.outcome.specs.declared.answer.Refusal.{Refusal}
 use Rattle.outcome.specs.declared.answer.Refusal.the-variants.{NoMemory, Stopped}
 use Rattle.outcome.specs.Outcome.{Outcome, refused}
-use Rattle.isolation.specs.Need.{need}
+use Rattle.lookups.specs.Need.{need}
 use Rattle.arrays.specs.Arrays.{touched, needs}
 use Rattle.arrays.specs.Outcomes.{Reads, Granted, Short, Commits, Writes}
 use Rattle.arrays.specs.Calls.{ByTests, Called, Page}

@@ -13,7 +13,7 @@ use Rattle.blocks.specs.declared.Next.the-variants.{Block, Done as NoBlock}
 use Rattle.blocks.specs.Blocks.{nextOf}
 use Rattle.tables.specs.Pool.{Pool}
 use Rattle.outcome.specs.Told.{toldOf}
-use Rattle.lookup.specs.declared.Looked.{Looked}
+use Rattle.lookup.specs.declared.Committed.{Committed}
 use Rattle.lookup.specs.Work.{workOf}
 use Rattle.sound.specs.Facts.{Leaf, Sound}
 use Rattle.outcome.specs.declared.answer.Answer.the-variants.{Done, Refused}
@@ -27,12 +27,12 @@ use Rattle.pool.proofs.Laws.{on-leaf}
 use Rattle.page.specs.Pages.{againstRead, Read, readOf, lookRead, readThrough, readBy, readPage}
 use Rattle.ranges.specs.Ranges.{filled, againstReading, readRange, readAt, read}
 use Rattle.soundness.proofs.Soundness.{sound-facts}
-use Rattle.bounds.specs.Reading.{Answers}
-use Rattle.bounds.specs.Reading.Answers.{frame, zeros}
-use Rattle.bounds.proofs.Quiet.{read-answers}
+use Rattle.lookups.specs.Reading.{Readable}
+use Rattle.lookups.specs.Reading.Readable.{frame, zeros}
+use Rattle.lookups.proofs.Quiet.{commit-answers}
 use Rattle.arrays.proofs.Each.{Goes, each-keeps}
 
-fine-by : {z : Looked} → Answers z → againstRead z ≡ Fine
+fine-by : {z : Committed} → Readable z → againstRead z ≡ Fine
 fine-by (frame f e) = rw e
 fine-by (zeros e) = rw e
 
@@ -42,7 +42,7 @@ module _ (L : ℕ) (p : Pool) (s : Sound L p) (n : ℕ) (leaf : Leaf (p .nodes) 
   step-fine : (it : BlockIter) (r : Read) (x : Next) → readBy L (p .nodes) (p .mappings) n offset it r x .why ≡ Fine
   unfolding readBy readThrough lookRead
   step-fine it r NoBlock = refl
-  step-fine it r (Block b next) = fine-by (read-answers L p s (p .mappings) (workOf (r .pages) (r .used) (r .memory) (toldOf [] 0)) n (b .block) n leaf)
+  step-fine it r (Block b next) = fine-by (commit-answers L p s (p .mappings) (workOf (r .pages) (r .used) (r .memory) (toldOf [] 0)) n (b .block) leaf)
 
   turn : (k : ℕ) (it : BlockIter) (r : Read) → Unit {0}
       → Goes (readPage L (p .nodes) (p .mappings) n offset) (λ k it r. Unit {0}) (λ q. q .why ≡ Fine) k (readPage L (p .nodes) (p .mappings) n offset it r .why) (readPage L (p .nodes) (p .mappings) n offset it r)

@@ -17,10 +17,10 @@ use Rattle.tables.specs.Pool.{Pool}
 use Rattle.tables.specs.Tables.{nodeOf}
 use Rattle.frames.specs.Frames.{pastedAt}
 use Rattle.outcome.specs.Told.{Told}
-use Rattle.lookup.specs.declared.Looked.{Looked}
-use Rattle.lookup.specs.declared.Looked.the-variants.{Shared, Zero, Own, New, NoMemory, Stopped}
+use Rattle.lookup.specs.declared.Committed.{Committed}
+use Rattle.lookup.specs.declared.Committed.the-variants.{Frame, ZeroFrame, Refused}
 use Rattle.lookup.specs.Work.{Work, workOf}
-use Rattle.lookup.specs.Lookup.{look}
+use Rattle.lookup.specs.Commit.{Committing, committingOf, commitLeaf}
 use Rattle.sound.specs.Facts.{Leaf, Sound}
 use Rattle.outcome.specs.declared.answer.Against.{Against}
 use Rattle.outcome.specs.declared.answer.Against.the-variants.{Why, Nothing as Fine}
@@ -31,7 +31,7 @@ use Rattle.isolation.specs.Kept.{poolWith}
 use Rattle.arrays.proofs.Each.{Goes, each-keeps, each-holds}
 use Rattle.arrays.proofs.Blocks.{cut, some-length, block-inside}
 use Rattle.arrays.proofs.Read.{workFor}
-use Rattle.arrays.proofs.Keep.{look-ok}
+use Rattle.lookups.proofs.Sound.{look-ok}
 use Rattle.lookups.proofs.Ok.{Ok}
 use Rattle.lookups.proofs.Base.{Base}
 
@@ -77,23 +77,21 @@ module _ (L : ℕ) (p : Pool) (s : Sound L p) where
         mappings = s .mappings;
       }
 
-  pub look-fits : (w : Work) → Fits w → (write : Bool) (n i : ℕ) → Leaf (p .nodes) n → i < nodeOf (p .nodes) n .size → Fits (look L 64 (p .nodes) (p .mappings) w n i write n .work)
+  pub look-fits : (w : Work) → Fits w → (write : Bool) (n i : ℕ) → Leaf (p .nodes) n → i < nodeOf (p .nodes) n .size → Fits (commitLeaf L (p .nodes) (p .mappings) w n i write .work)
+  unfolding commitLeaf
   look-fits w o write n i leaf low = look-ok (p .nodes) base (p .mappings) L F w o write 64 n i n leaf low
 
   -- page lookup of an object's page keeps the pool sound
   pub look-sound : (t : Told) (write : Bool) (n i : ℕ) → Leaf (p .nodes) n → i < nodeOf (p .nodes) n .size
-      → Sound L (poolWith p (look L 64 (p .nodes) (p .mappings) (workOf (p .pages) (p .used) (p .memory) t) n i write n .work))
+      → Sound L (poolWith p (commitLeaf L (p .nodes) (p .mappings) (workOf (p .pages) (p .used) (p .memory) t) n i write .work))
   look-sound t write n i leaf low = fits-sound _ (look-fits (workOf (p .pages) (p .used) (p .memory) t) (fits-first t) write n i leaf low)
 
-  stored-fits : (bytes : List ℕ) (from : ℕ) (b : BlockRange) (z : Looked) (w : Work) → Fits w → Fits (storedBy L bytes from b z w)
+  stored-fits : (bytes : List ℕ) (from : ℕ) (b : BlockRange) (z : Committed) (w : Work) → Fits w → Fits (storedBy L bytes from b z w)
   unfolding storedBy
-  stored-fits bytes from b (Shared f) w o =
+  stored-fits bytes from b (Frame f) w o =
       record { few = o .few; pages = o .pages; used = o .used; memory = pasted-length (w .memory) (f * L + b .begin) bytes from (b .end - b .begin) ∙ o .memory; entries = o .entries }
-  stored-fits bytes from b Zero w o = o
-  stored-fits bytes from b (Own f u) w o = o
-  stored-fits bytes from b (New f) w o = o
-  stored-fits bytes from b NoMemory w o = o
-  stored-fits bytes from b Stopped w o = o
+  stored-fits bytes from b ZeroFrame w o = o
+  stored-fits bytes from b (Refused r) w o = o
 
   module _ (n : ℕ) (leaf : Leaf (p .nodes) n) where
     -- commit, page by page
@@ -102,7 +100,7 @@ module _ (L : ℕ) (p : Pool) (s : Sound L p) where
         (commitOne L (p .nodes) (p .mappings) n i w .why) (commitOne L (p .nodes) (p .mappings) n i w)
     unfolding commitOne committedOne
     commit-turn k i w (low, o) =
-        let l = look L 64 (p .nodes) (p .mappings) w n i true n in
+        let l = commitLeaf L (p .nodes) (p .mappings) w n i true in
         by (againstWrite (l .answer)) (l .work) (look-fits w o true n i leaf (omega arith))
       where
         by : (a : Against) (v : Work) → Fits v → Goes (commitOne L (p .nodes) (p .mappings) n) (λ k i w. (i + k ≤ nodeOf (p .nodes) n .size) × Fits w) (λ r. Fits (r .state)) k a (partOf a (restBy a i (i + 1)) v)
@@ -129,7 +127,7 @@ module _ (L : ℕ) (p : Pool) (s : Sound L p) where
           let c = cut L (some-length L (nodeOf (p .nodes) n .size) (it .begin) (it .end) l (omega arith)) it l in
           let b = c .block in
           rw (c .next)
-          (let r = look L 64 (p .nodes) (p .mappings) w n (b .block) true n in (
+          (let r = commitLeaf L (p .nodes) (p .mappings) w n (b .block) true in (
             rest-end (againstWrite (r .answer)) it (c .rest) e (c .first .to-end),
             stored-fits bytes (it .begin - offset) b (r .answer) (r .work)
                 (look-fits w o true n (b .block) leaf (block-inside L offset len (nodeOf (p .nodes) n .size) it b (c .rest) (c .first) l e inside)),
@@ -146,7 +144,7 @@ module _ (L : ℕ) (p : Pool) (s : Sound L p) where
           let c = cut L (some-length L (nodeOf (p .nodes) n .size) (it .begin) (it .end) l (omega arith)) it l in
           let b = c .block in
           rw (c .next)
-          (let g = look L 64 (p .nodes) (p .mappings) (workFor r) n (b .block) false n in
+          (let g = commitLeaf L (p .nodes) (p .mappings) (workFor r) n (b .block) false in
           let f = look-fits (workFor r) o false n (b .block) leaf (block-inside L offset len (nodeOf (p .nodes) n .size) it b (c .rest) (c .first) l e inside) in (
             rest-end (againstRead (g .answer)) it (c .rest) e (c .first .to-end),
             record { few = f .few; pages = f .pages; used = f .used; memory = f .memory; entries = f .entries },

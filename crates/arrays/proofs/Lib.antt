@@ -13,10 +13,6 @@ pub mod Calls
 pub mod Page
 pub mod Exact
 pub mod Filled
-pub mod Base
-pub mod Loose
-pub mod Settle
-pub mod Keep
 pub mod Fits
 pub mod Sound
 pub mod Cases

@@ -13,10 +13,10 @@ use Rattle.tables.specs.Pool.{Pool}
 use Rattle.tables.specs.Tables.{nodeOf}
 use Rattle.frames.specs.Frames.{pastedAt, blankAt}
 use Rattle.outcome.specs.Told.{toldOf}
-use Rattle.lookup.specs.declared.Looked.{Looked}
-use Rattle.lookup.specs.declared.Looked.the-variants.{Shared, Zero, Own, New, NoMemory, Stopped}
-use Rattle.lookup.specs.Work.{Work, workOf, lookingOf}
-use Rattle.lookup.specs.Lookup.{look}
+use Rattle.lookup.specs.declared.Committed.{Committed}
+use Rattle.lookup.specs.declared.Committed.the-variants.{Frame, ZeroFrame, Refused}
+use Rattle.lookup.specs.Work.{Work, workOf}
+use Rattle.lookup.specs.Commit.{Committing, committingOf, commitLeaf}
 use Rattle.sound.specs.Facts.{Leaf}
 use Rattle.outcome.specs.declared.answer.Against.{Against}
 use Rattle.outcome.specs.declared.answer.Against.the-variants.{Nothing as Fine}
@@ -26,7 +26,7 @@ use Rattle.ranges.specs.Ranges.{readRange, filled}
 use Rattle.isolation.specs.Private.{Private}
 use Rattle.isolation.specs.Kept.{poolWith, Kept}
 use Rattle.isolation.proofs.Look.{look-goes-on}
-use Rattle.bounds.proofs.Quiet.{read-quiet}
+use Rattle.lookups.proofs.Quiet.{commit-quiet}
 use Rattle.arrays.specs.Outcomes.{Reads}
 use Rattle.arrays.proofs.Each.{Goes, each-keeps}
 use Rattle.arrays.proofs.Blocks.{First, cut, count-more, count-end, some-length, block-inside}
@@ -91,10 +91,10 @@ module _ (L : ℕ) (A : ℕ → ℕ → ℕ → ℕ) (p : Pool) (n offset size :
           bytes = rw d at f;
         }
 
-    turn-by : (z : Looked) (v : Work) → v .memory ≡ s .memory → Kept L A (poolWith p (workFor s)) (toldOf [] 0) n (b .block) false (lookingOf z v)
+    turn-by : (z : Committed) (v : Work) → v .memory ≡ s .memory → Kept L A (poolWith p (workFor s)) (toldOf [] 0) n (b .block) false (committingOf z v)
         → After-turn k (againstRead z) (partOf (againstRead z) (restBy (againstRead z) it next) (readOf (v .pages) (v .used) (v .memory) (fetchedBy L (it .begin - offset) b z (v .memory) (s .buf))))
     unfolding fetchedBy
-    turn-by (Shared f) v m K =
+    turn-by (Frame f) v m K =
         let a = F .starts in
         let c = F .goes-on in
         let x = F .some in
@@ -111,7 +111,7 @@ module _ (L : ℕ) (A : ℕ → ℕ → ℕ → ℕ) (p : Pool) (n offset size :
         (pasted-length (s .buf) (it .begin - offset) (v .memory) (f * L + b .begin) (b .end - b .begin) room (omega arith))
         (pasted-fills L offset (A n) (s .buf) (it .begin - offset) (b .end - b .begin) (b .block) (b .begin) room (omega arith) (omega arith) (B .bytes) (v .memory) (f * L + b .begin) (omega arith)
         (λ j d. let i : f * L + b .begin + j ≡ f * L + (b .begin + j) = omega arith in rw i (g .bytes (b .begin + j) (omega arith))))
-    turn-by Zero v m K =
+    turn-by ZeroFrame v m K =
         let a = F .starts in
         let c = F .goes-on in
         let x = F .some in
@@ -126,10 +126,7 @@ module _ (L : ℕ) (A : ℕ → ℕ → ℕ → ℕ) (p : Pool) (n offset size :
         (blank-length L offset (A n) (s .buf) (it .begin - offset) (b .end - b .begin) (b .block) (b .begin) room (omega arith) (omega arith) (B .bytes))
         (blank-fills L offset (A n) (s .buf) (it .begin - offset) (b .end - b .begin) (b .block) (b .begin) room (omega arith) (omega arith) (B .bytes)
         (λ j d. g .bytes (b .begin + j) (omega arith)))
-    turn-by NoMemory v m K = absurd (true-not (K .answers .writing) refl)
-    turn-by (Own f u) v m K = absurd (K .answers)
-    turn-by (New f) v m K = absurd (K .answers)
-    turn-by Stopped v m K = absurd (K .answers)
+    turn-by (Refused r) v m K = true-not (K .answers .writing) refl
 
   turn : (k : ℕ) (it : BlockIter) (s : Read) → Before (suc k) it s → After-turn k (step it s .why) (step it s)
   unfolding readPage readBy readThrough lookRead
@@ -139,8 +136,8 @@ module _ (L : ℕ) (A : ℕ → ℕ → ℕ → ℕ) (p : Pool) (n offset size :
       let c = cut L (some-length L (nodeOf (p .nodes) n .size) (it .begin) (it .end) l (omega arith)) it l in
       let b = c .block in
       subst (λ (x : Next). After-turn k (readBy L (p .nodes) (p .mappings) n offset it s x .why) (readBy L (p .nodes) (p .mappings) n offset it s x)) (sym (c .next))
-      (let r = look L 64 (p .nodes) (p .mappings) (workFor s) n (b .block) false n in
-      turn-by k it s B b (c .rest) (c .first) (r .answer) (r .work) (read-quiet L 64 (p .nodes) (p .mappings) (workFor s) n (b .block) n .memory)
+      (let r = commitLeaf L (p .nodes) (p .mappings) (workFor s) n (b .block) false in
+      turn-by k it s B b (c .rest) (c .first) (r .answer) (r .work) (commit-quiet L (p .nodes) (p .mappings) (workFor s) n (b .block) .1)
       (look-goes-on L A p (workFor s) (B .private) n (b .block) false leaf
       (block-inside L offset size (nodeOf (p .nodes) n .size) it b (c .rest) (c .first) l (B .end) inside)))
 

@@ -14,10 +14,11 @@ use Rattle.blocks.specs.Blocks.{nextOf}
 use Rattle.tables.specs.Pool.{Pool}
 use Rattle.outcome.specs.declared.notice.Notice.{Notice}
 use Rattle.outcome.specs.Told.{Told}
-use Rattle.lookup.specs.declared.Looked.{Looked}
-use Rattle.lookup.specs.declared.Looked.the-variants.{Shared, Zero, Own, New, NoMemory, Stopped}
-use Rattle.lookup.specs.Work.{Work, workOf, Looking}
-use Rattle.lookup.specs.Lookup.{withTold}
+use Rattle.lookup.specs.declared.Committed.{Committed}
+use Rattle.lookup.specs.declared.Committed.the-variants.{Frame, ZeroFrame, Refused}
+use Rattle.lookup.specs.Work.{Work, workOf}
+use Rattle.lookup.specs.Level.{withTold}
+use Rattle.lookup.specs.Commit.{Committing}
 use Rattle.sound.specs.Facts.{Leaf, Sound}
 use Rattle.outcome.specs.declared.answer.Against.{Against}
 use Rattle.outcome.specs.declared.answer.Against.the-variants.{Why, Nothing as Fine}
@@ -77,14 +78,11 @@ module _ {C : Type 0} (step : C → Work → Part C Work) (most : ℕ) where
 
 -- the bytes stored don't depend on the list either
 
-stored-told : (L : ℕ) (bytes : List ℕ) (from : ℕ) (b : BlockRange) (z : Looked) (w : Work) (t : Told) → storedBy L bytes from b z (withTold w t) ≡ withTold (storedBy L bytes from b z w) t
+stored-told : (L : ℕ) (bytes : List ℕ) (from : ℕ) (b : BlockRange) (z : Committed) (w : Work) (t : Told) → storedBy L bytes from b z (withTold w t) ≡ withTold (storedBy L bytes from b z w) t
 unfolding storedBy
-stored-told L bytes from b (Shared f) w t = refl
-stored-told L bytes from b Zero w t = refl
-stored-told L bytes from b (Own f u) w t = refl
-stored-told L bytes from b (New f) w t = refl
-stored-told L bytes from b NoMemory w t = refl
-stored-told L bytes from b Stopped w t = refl
+stored-told L bytes from b (Frame f) w t = refl
+stored-told L bytes from b ZeroFrame w t = refl
+stored-told L bytes from b (Refused r) w t = refl
 
 -- one page of a write and of a commit
 
@@ -104,7 +102,7 @@ module _ (L : ℕ) (p : Pool) (sound : Sound L p) (n : ℕ) (leaf : Leaf (p .nod
         notices = s .notices;
         few = s .few;
         same = λ t.
-            ap (λ (l : Looking). wrotePage L bytes from b it next l) (s .same t)
+            ap (λ (l : Committing). wrotePage L bytes from b it next l) (s .same t)
             ∙ ap (λ (y : Work). partOf a (restBy a it next) y) (stored-told L bytes from b (s .answer) v (putAll t (s .notices)));
       }
 
@@ -123,5 +121,5 @@ module _ (L : ℕ) (p : Pool) (sound : Sound L p) (n : ℕ) (leaf : Leaf (p .nod
         work = workOf (s .pages) (s .used) (s .memory) (w .told);
         notices = s .notices;
         few = s .few;
-        same = λ t. ap (λ (l : Looking). committedOne i l) (s .same t);
+        same = λ t. ap (λ (l : Committing). committedOne i l) (s .same t);
       }

@@ -2,14 +2,14 @@
 use mathlib.Core.Path.{_≡_, refl, ap}
 use mathlib.Core.Bool.{Bool, true}
 use mathlib.Core.List.{List, []}
-use Prim.Native.Nat.{ℕ, _/_, _%_, _<_}
+use Prim.Native.Nat.{ℕ, _/_, _<_}
 use native.Mathlib.Omega.{arith}
 use lib.ListN.{length}
 use Rattle.tables.specs.Pool.{Pool}
 use Rattle.tables.specs.Tables.{nodeOf}
 use Rattle.outcome.specs.Told.{toldOf}
 use Rattle.lookup.specs.Work.{Work, workOf}
-use Rattle.lookup.specs.Lookup.{look}
+use Rattle.lookup.specs.Commit.{Committing, committingOf, commitLeaf}
 use Rattle.sound.specs.Sound.{sound}
 use Rattle.sound.specs.Facts.{Sound}
 use Rattle.outcome.specs.declared.answer.Refusal.{Refusal}
@@ -74,8 +74,7 @@ module _ (L : ℕ) (p : Pool) (is-sound : sound L p ≡ true) where
       kept-by (λ (r : Outcome Answer). r .pool) (λ why. refl)
       (called (refused p list []) (λ r. sound L (r .pool) ≡ true) (page < nodeOf (p .nodes) object .size) L p object
       (λ n. One.pageRefusal (p .nodes) (p .mappings) list n page write)
-      (λ n. One.lookedOutcome p (look L 64 (p .nodes) (p .mappings) (workOf (p .pages) (p .used) (p .memory) (toldOf list 0)) n (page % 4294967296) write n)) is-sound
+      (λ n. One.committedOutcome p (commitLeaf L (p .nodes) (p .mappings) (workOf (p .pages) (p .used) (p .memory) (toldOf list 0)) n page write)) is-sound
       (page-tests (p .nodes) (p .mappings) list object page write)
       (λ leaf low.
-      let s = facts .tree .sizes object in
-      passes _ (look-fits L p facts (workOf (p .pages) (p .used) (p .memory) (toldOf list 0)) (fits-first L p facts (toldOf list 0)) write object (page % 4294967296) leaf (omega arith))))
+      passes _ (look-fits L p facts (workOf (p .pages) (p .used) (p .memory) (toldOf list 0)) (fits-first L p facts (toldOf list 0)) write object page leaf low)))

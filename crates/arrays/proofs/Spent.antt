@@ -7,13 +7,15 @@ use native.Mathlib.Omega.{arith}
 use Rattle.logic.specs.Below.{sumBelow}
 use Rattle.tables.specs.Pool.{Pool}
 use Rattle.frames.specs.Frames.{freeCount}
-use Rattle.lookup.specs.Work.{Work, Looking}
+use Rattle.lookup.specs.Work.{Work}
+use Rattle.lookup.specs.Commit.{Committing}
 use Rattle.outcome.specs.declared.answer.Against.{Against}
 use Rattle.outcome.specs.declared.answer.Against.the-variants.{Why, Nothing as Fine}
+use Rattle.outcome.specs.declared.answer.Refusal.{Refusal}
 use Rattle.outcome.specs.declared.answer.Refusal.the-variants.{NoMemory}
 use Rattle.isolation.specs.Private.{Private}
-use Rattle.isolation.specs.Need.{need}
-use Rattle.isolation.specs.Kept.{poolWith, Gives, Refuses, Kept}
+use Rattle.lookups.specs.Need.{need}
+use Rattle.isolation.specs.Kept.{poolWith, Gives, Scarce, Kept}
 use Rattle.isolation.proofs.Needs.{need-still}
 use Rattle.arrays.specs.Arrays.{needs}
 use Rattle.lookups.proofs.Frames.{none-free}
@@ -52,7 +54,7 @@ module _ (p : Pool) (n first : ℕ) where
     pub here : freeCount (p .used) < sum (suc d)
     pub none : freeCount left ≡ 0
 
-  module _ (L : ℕ) (A : ℕ → ℕ → ℕ → ℕ) (d : ℕ) (w : Work) (P : Private L A (poolWith p w)) (s : Spent d w) (r : Looking) (K : Kept L A (poolWith p w) (w .told) n (first + d) true r) where
+  module _ (L : ℕ) (A : ℕ → ℕ → ℕ → ℕ) (d : ℕ) (w : Work) (P : Private L A (poolWith p w)) (s : Spent d w) (r : Committing) (K : Kept L A (poolWith p w) (w .told) n (first + d) true r) where
     needed : need (p .nodes) (w .pages) n (first + d) ≡ need (p .nodes) (p .pages) n (first + d)
     needed = s .later (first + d) (omega arith)
 
@@ -67,7 +69,7 @@ module _ (p : Pool) (n first : ℕ) where
           later = λ j l. need-still L A (poolWith p w) P (w .told) n (first + d) true r K j (λ z. omega arith) ∙ s .later j (omega arith);
         }
 
-    pub spent-out : (pages : ℕ) → d < pages → Refuses (poolWith p w) n (first + d) true (r .work) → Out pages (r .work .used) d
+    pub spent-out : {why : Refusal} (pages : ℕ) → d < pages → Scarce (poolWith p w) n (first + d) true why (r .work) → Out pages (r .work .used) d
     spent-out pages l g =
         let q = g .short in
         let e = needed in

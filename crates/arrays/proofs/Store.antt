@@ -8,7 +8,7 @@ use Rattle.blocks.specs.declared.BlockIter.{BlockIter}
 use Rattle.blocks.specs.declared.BlockRange.{BlockRange}
 use Rattle.entry.specs.declared.PageState.{PageState}
 use Rattle.tables.specs.Pool.{Pool}
-use Rattle.lookup.specs.declared.Looked.the-variants.{Shared}
+use Rattle.lookup.specs.declared.Committed.the-variants.{Frame}
 use Rattle.lookup.specs.Work.{Work}
 use Rattle.sound.specs.Facts.{Leaf, Holds}
 use Rattle.page.specs.Pages.{storedBy}
@@ -26,7 +26,7 @@ module _ (L : ℕ) (A : ℕ → ℕ → ℕ → ℕ) (p : Pool) (n offset : ℕ)
   arrays done = writeArray L A n offset bytes done
 
   pub stored : (f : ℕ) (v : Work) → Private L (arrays (it .begin - offset)) (poolWith p v) → (s : PageState) × Holds (v .pages) n (b .block) s × (s .frame ≡ f)
-      → Private L (arrays (next .begin - offset)) (poolWith p (storedBy L bytes (it .begin - offset) b (Shared f) v))
+      → Private L (arrays (next .begin - offset)) (poolWith p (storedBy L bytes (it .begin - offset) b (Frame f) v))
   unfolding storedBy
   stored f v P (s, holds, e) =
       let a = F .starts in

@@ -21,7 +21,8 @@ use Rattle.sound.specs.Sound.{sound}
 use Rattle.sound.specs.Facts.{Leaf, Sound}
 use Rattle.soundness.proofs.Soundness.{sound-facts}
 use Rattle.lookup.specs.Work.{Work}
-use Rattle.lookup.specs.Lookup.{withTold}
+use Rattle.lookup.specs.Level.{withTold}
+use Rattle.lookup.specs.Commit.{Committing}
 use Rattle.outcome.specs.declared.answer.Refusal as R
 use Rattle.outcome.specs.declared.answer.Refusal.{Refusal}
 use Rattle.outcome.specs.declared.answer.Against.{Against}
@@ -93,7 +94,7 @@ module _ (p : Pool) (n first pages : ℕ) where
   both-told : (child : ℕ) (f : Found) → TellsAll (λ list. withBoth p list n first pages child f) (liveCount (p .mappings))
   unfolding withBoth born
   both-told child (At hidden) =
-      let s = object-room (p .mappings) n first pages 2 in
+      let s = object-room (p .mappings) n first (first + pages) 2 in
       tested p 1 (s .notices) (omega arith) (s .few) (λ list r. rw r (s .same (toldOf list 0))) (λ list r. rw r refl)
   both-told child Nothing = silent (λ list. refl)
 

@@ -13,13 +13,13 @@ use Rattle.blocks.specs.declared.Next.{Next}
 use Rattle.blocks.specs.Blocks.{iterOf, countOf}
 use Rattle.tables.specs.Pool.{Pool}
 use Rattle.tables.specs.Tables.{nodeOf}
-use Rattle.lookup.specs.declared.Looked.{Looked}
-use Rattle.lookup.specs.declared.Looked.the-variants.{Shared, Zero, Own, New, NoMemory, Stopped}
-use Rattle.lookup.specs.Work.{Work, lookingOf}
-use Rattle.lookup.specs.Lookup.{look}
+use Rattle.lookup.specs.declared.Committed.{Committed}
+use Rattle.lookup.specs.declared.Committed.the-variants.{Frame, ZeroFrame, Refused}
+use Rattle.lookup.specs.Work.{Work}
+use Rattle.lookup.specs.Commit.{Committing, committingOf, commitLeaf}
 use Rattle.sound.specs.Facts.{Leaf}
 use Rattle.outcome.specs.declared.answer.Against.{Against}
-use Rattle.outcome.specs.declared.answer.Against.the-variants.{Nothing as Fine}
+use Rattle.outcome.specs.declared.answer.Against.the-variants.{Why, Nothing as Fine}
 use Rattle.page.specs.Each.{Part, partOf}
 use Rattle.page.specs.Pages.{againstWrite, storedBy, restBy, wrotePage, writeBy, writePage}
 use Rattle.ranges.specs.Ranges.{workIn, rangedBy, writeRange, written, writeThrough}
@@ -82,8 +82,8 @@ module _ (L : ℕ) (A : ℕ → ℕ → ℕ → ℕ) (p : Pool) (n offset : ℕ)
     block-is : b .block ≡ first + B .done
     block-is = F .block ∙ B .page begins
 
-    moved-on : (f : ℕ) (v : Work) → Private L (arrays (next .begin - offset)) (poolWith p (storedBy L bytes (it .begin - offset) b (Shared f) v)) → Spent p n first (suc (B .done)) v
-        → Before k next (storedBy L bytes (it .begin - offset) b (Shared f) v)
+    moved-on : (f : ℕ) (v : Work) → Private L (arrays (next .begin - offset)) (poolWith p (storedBy L bytes (it .begin - offset) b (Frame f) v)) → Spent p n first (suc (B .done)) v
+        → Before k next (storedBy L bytes (it .begin - offset) b (Frame f) v)
     unfolding storedBy
     moved-on f v P s =
         let a = F .starts in
@@ -120,27 +120,24 @@ module _ (L : ℕ) (A : ℕ → ℕ → ℕ → ℕ) (p : Pool) (n offset : ℕ)
         next-bytes : b .end ≡ L → next .begin - offset ≡ (first + suc (B .done)) * L - offset
         next-bytes e = let q = next-begin e in let m : first + suc (B .done) ≡ suc (first + B .done) = omega arith in rw (m, q)
 
-    turn-by : (z : Looked) (v : Work) → Kept L (arrays (it .begin - offset)) (poolWith p w) (w .told) n (b .block) true (lookingOf z v)
+    turn-by : (z : Committed) (v : Work) → Kept L (arrays (it .begin - offset)) (poolWith p w) (w .told) n (b .block) true (committingOf z v)
         → After-turn k (againstWrite z) (partOf (againstWrite z) (restBy (againstWrite z) it next) (storedBy L bytes (it .begin - offset) b z v))
     unfolding storedBy
-    turn-by (Shared f) v K =
+    turn-by (Frame f) v K =
         moved-on f v (let x = F .within in let y = B .end in stored L A p n offset bytes leaf it next b F (B .from) (omega arith) f v (K .private) (K .answers .own refl))
-        (spent-more p n first L (arrays (it .begin - offset)) (B .done) w (B .private) (B .spent) (lookingOf (Shared f) v) (rw block-is at K) (rw block-is at (K .answers)))
-    turn-by NoMemory v K =
+        (spent-more p n first L (arrays (it .begin - offset)) (B .done) w (B .private) (B .spent) (committingOf (Frame f) v) (rw block-is at K) (rw block-is at (K .answers)))
+    turn-by (Refused r) v K =
         let l = begins in
         let x = B .from in
         let y = B .end in
         let i = B .all-pages in
         record {
           private = K .private;
-          ends = out (B .done) refl
-              (spent-out p n first L (arrays (it .begin - offset)) (B .done) w (B .private) (B .spent) (lookingOf NoMemory v) (rw block-is at K) pages (omega arith) (rw block-is at (K .answers)))
+          ends = out (B .done) (ap Why (K .answers .answer))
+              (spent-out p n first L (arrays (it .begin - offset)) (B .done) w (B .private) (B .spent) (committingOf (Refused r) v) (rw block-is at K) pages (omega arith) (rw block-is at (K .answers)))
               (omega arith, B .bytes-done l);
         }
-    turn-by Zero v K = absurd (true-not refl (K .answers .reading))
-    turn-by (Own f u) v K = absurd (K .answers)
-    turn-by (New f) v K = absurd (K .answers)
-    turn-by Stopped v K = absurd (K .answers)
+    turn-by ZeroFrame v K = true-not refl (K .answers .reading)
 
   turn : (k : ℕ) (it : BlockIter) (w : Work) → Before (suc k) it w → After-turn k (step it w .why) (step it w)
   unfolding writePage writeBy wrotePage
@@ -150,7 +147,7 @@ module _ (L : ℕ) (A : ℕ → ℕ → ℕ → ℕ) (p : Pool) (n offset : ℕ)
       let c = cut L (some-length L (nodeOf (p .nodes) n .size) (it .begin) (it .end) l (omega arith)) it l in
       let b = c .block in
       subst (λ (x : Next). After-turn k (writeBy L (p .nodes) (p .mappings) n offset bytes it w x .why) (writeBy L (p .nodes) (p .mappings) n offset bytes it w x)) (sym (c .next))
-      (let r = look L 64 (p .nodes) (p .mappings) w n (b .block) true n in
+      (let r = commitLeaf L (p .nodes) (p .mappings) w n (b .block) true in
       turn-by k it w B b (c .rest) (c .first) (r .answer) (r .work)
       (look-goes-on L (arrays (it .begin - offset)) p w (B .private) n (b .block) true leaf
       (block-inside L offset (length bytes) (nodeOf (p .nodes) n .size) it b (c .rest) (c .first) l (B .end) inside)))

@@ -7,7 +7,7 @@ use lib.ListN.{getD}
 use Rattle.logic.specs.Pick.{pick}
 use Rattle.logic.specs.Below.{sumBelow}
 use Rattle.blocks.specs.Blocks.{iterOf, countOf}
-use Rattle.isolation.specs.Need.{need}
+use Rattle.lookups.specs.Need.{need}
 
 -- the first `done` of the bytes were written into object n from byte `offset` on; byte k of page i is the object's byte i * L + k
 unfoldable pub writeArray : ℕ → (ℕ → ℕ → ℕ → ℕ) → ℕ → ℕ → List ℕ → ℕ → ℕ → ℕ → ℕ → ℕ

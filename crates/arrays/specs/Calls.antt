@@ -12,7 +12,7 @@ use Rattle.outcome.specs.declared.answer.Refusal.the-variants.{OutOfRange, BadS
 use Rattle.outcome.specs.declared.answer.Answer.{Answer}
 use Rattle.outcome.specs.Outcome.{Outcome}
 use Rattle.isolation.specs.Private.{Private}
-use Rattle.isolation.specs.Need.{need}
+use Rattle.lookups.specs.Need.{need}
 use Rattle.arrays.specs.Outcomes.{Stays}
 
 -- the refusals that a call's tests give before it does anything: on a sound pool never BAD_POOL, NO_MEMORY or STOPPED

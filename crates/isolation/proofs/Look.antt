@@ -11,7 +11,8 @@ use Rattle.lookup.specs.declared.Looked.{Looked}
 use Rattle.lookup.specs.declared.Looked.the-variants.{Shared, Zero, Own, New, NoMemory, Stopped}
 use Rattle.lookup.specs.Work.{Work, lookingOf}
 use Rattle.lookup.specs.Mode.{today, placeOf}
-use Rattle.lookup.specs.Lookup.{lookIn, look}
+use Rattle.lookup.specs.Lookup.{lookIn}
+use Rattle.lookup.specs.Commit.{committedBy, commitLeaf}
 use Rattle.lookup.specs.Descent.{lookup}
 use Rattle.lookup.proofs.Same.{look-same}
 use Rattle.lookup.proofs.Looks.{looks}
@@ -22,7 +23,7 @@ use Rattle.lookups.proofs.Exact.{write-exact, pays-gives, pays-refuses}
 use Rattle.sound.specs.Facts.{Leaf}
 use Rattle.isolation.specs.Walk.{byteOf}
 use Rattle.isolation.specs.Private.{Shows, Private}
-use Rattle.isolation.specs.Kept.{poolWith, workIn, Answers, Kept}
+use Rattle.isolation.specs.Kept.{poolWith, workIn, Answered, Kept}
 use Rattle.isolation.proofs.Wood.{Ground}
 use Rattle.isolation.proofs.State.{Step}
 use Rattle.isolation.proofs.Done.{Says}
@@ -68,7 +69,7 @@ module _ (L : ℕ) (A : ℕ → ℕ → ℕ → ℕ) (p : Pool) (P : Private L A
     shown = P .shows l i leaf low
 
     answered : (z : Looked) (w : Work) → Step (p .nodes) L (length (p .used)) (workIn p t) w → (write ≡ true → Pays (need (p .nodes) (p .pages) l i) (workIn p t) (lookingOf z w))
-        → Says L (length (p .used)) (workIn p t) l i (shown .source) write z w → Answers L p t l i (A l i) write z w
+        → Says L (length (p .used)) (workIn p t) l i (shown .source) write z w → Answered L p t l i (A l i) write (committedBy z) w
     answered (Shared f) w s c d =
         record {
           bytes = λ k h. d .bytes k h ∙ shown .bytes k h;
@@ -80,12 +81,13 @@ module _ (L : ℕ) (A : ℕ → ℕ → ℕ → ℕ) (p : Pool) (P : Private L A
     answered Zero w s c d =
         let e = d .nothing in
         record { reading = d .reading; bytes = λ k h. sym (shown .bytes k h) ∙ ap (λ (x : Found). byteOf L (p .memory) x k) e; same = d .same }
-    answered NoMemory w s c d = record { writing = d .writing; short = pays-refuses (c (d .writing)) .0; no-frame = d .no-frame }
-    answered (Own f u) w s c d = d
-    answered (New g) w s c d = d
-    answered Stopped w s c d = d
+    answered NoMemory w s c d = record { answer = refl; writing = d .writing; short = pays-refuses (c (d .writing)) .0; no-frame = d .no-frame }
+    answered (Own f u) w s c d = absurd d
+    answered (New g) w s c d = absurd d
+    answered Stopped w s c d = absurd d
 
-    pub look-keeps : Kept L A p t l i write (look L 64 (p .nodes) (p .mappings) (workIn p t) l i write l)
+    pub look-keeps : Kept L A p t l i write (commitLeaf L (p .nodes) (p .mappings) (workIn p t) l i write)
+    unfolding commitLeaf
     look-keeps =
         let m = today L (p .nodes) (p .mappings) in
         let q = placeOf l i l in
@@ -104,5 +106,5 @@ module _ (L : ℕ) (A : ℕ → ℕ → ℕ → ℕ) (p : Pool) (P : Private L A
 
 -- the same of a lookup that goes on from what an earlier one left
 pub look-goes-on : (L : ℕ) (A : ℕ → ℕ → ℕ → ℕ) (p : Pool) (w : Work) → Private L A (poolWith p w) → (l i : ℕ) (write : Bool) → Leaf (p .nodes) l → i < nodeOf (p .nodes) l .size
-    → Kept L A (poolWith p w) (w .told) l i write (look L 64 (p .nodes) (p .mappings) w l i write l)
+    → Kept L A (poolWith p w) (w .told) l i write (commitLeaf L (p .nodes) (p .mappings) w l i write)
 look-goes-on L A p w P l i write leaf low = look-keeps L A (poolWith p w) P (w .told) l i write leaf low

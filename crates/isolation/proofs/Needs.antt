@@ -11,9 +11,11 @@ use Rattle.tables.specs.Pool.{Pool}
 use Rattle.tables.specs.Tables.{nodeOf, slotAt}
 use Rattle.frames.specs.Frames.{freeCount}
 use Rattle.outcome.specs.Told.{Told}
-use Rattle.lookup.specs.declared.Looked.{Looked}
-use Rattle.lookup.specs.declared.Looked.the-variants.{Shared, Zero, Own, New, NoMemory, Stopped}
-use Rattle.lookup.specs.Work.{Work, Looking}
+use Rattle.outcome.specs.declared.answer.Refusal.the-variants.{NoMemory}
+use Rattle.lookup.specs.declared.Committed.{Committed}
+use Rattle.lookup.specs.declared.Committed.the-variants.{Frame, ZeroFrame, Refused}
+use Rattle.lookup.specs.Work.{Work}
+use Rattle.lookup.specs.Commit.{Committing}
 use Rattle.sound.specs.Facts.{Leaf}
 use Rattle.isolation.specs.Walk.{Over, byteOf}
 use Rattle.isolation.specs.Walk.Over.{parent, higher}
@@ -21,7 +23,7 @@ use Rattle.isolation.specs.Private.{linksOf, Private}
 use Rattle.lookups.specs.Need.{needIn, need}
 use Rattle.lookup.specs.Mode.{Mode, today, placeOf, up, asks}
 use Rattle.lookup.specs.Descent.{Way, further, walkBy, walk}
-use Rattle.isolation.specs.Kept.{Answers, Kept}
+use Rattle.isolation.specs.Kept.{Answered, Kept}
 use Rattle.isolation.proofs.Pass.{view-one}
 use Rattle.isolation.proofs.Wood.{Ground, height}
 use Rattle.isolation.proofs.Ask.{over-low}
@@ -58,7 +60,7 @@ over-one N G (parent {n} x i j) (higher y d) = let l = over-low N G d in let e =
 over-one N G (higher {n} x d) (parent y k l) = let m = over-low N G d in let e = ap (height N G) k in absurd (omega arith)
 over-one N G (higher x d) (higher y e) = let h = over-one N G d e in omega arith
 
-module _ (L : ℕ) (A : ℕ → ℕ → ℕ → ℕ) (p : Pool) (P : Private L A p) (t : Told) (l i : ℕ) (write : Bool) (r : Looking) (K : Kept L A p t l i write r) where
+module _ (L : ℕ) (A : ℕ → ℕ → ℕ → ℕ) (p : Pool) (P : Private L A p) (t : Told) (l i : ℕ) (write : Bool) (r : Committing) (K : Kept L A p t l i write r) where
   -- the object's other pages need what they needed
   pub need-still : (j : ℕ) → (j ≡ i → ⊥) → need (p .nodes) (r .work .pages) l j ≡ need (p .nodes) (p .pages) l j
   need-still j ne =
@@ -68,26 +70,20 @@ module _ (L : ℕ) (A : ℕ → ℕ → ℕ → ℕ) (p : Pool) (P : Private L A
       (λ a b d. K .only a b (λ x y. let h = over-low (p .nodes) G d in let k = ap (height (p .nodes) G) x in omega arith) (λ c. ne (over-one (p .nodes) G d c)))
 
   -- a write is granted exactly if the page needs no more frames than are free
-  granted-by : (z : Looked) (w : Work) → Answers L p t l i (A l i) write z w → write ≡ true → need (p .nodes) (p .pages) l i ≤ freeCount (p .used) → (f : ℕ) × (z ≡ Shared f)
-  granted-by (Shared f) w d k h = (f, refl)
-  granted-by Zero w d k h = true-not k (d .reading)
-  granted-by NoMemory w d k h = let s = d .short in absurd (omega arith)
-  granted-by (Own f u) w d k h = absurd d
-  granted-by (New f) w d k h = absurd d
-  granted-by Stopped w d k h = absurd d
+  granted-by : (z : Committed) (w : Work) → Answered L p t l i (A l i) write z w → write ≡ true → need (p .nodes) (p .pages) l i ≤ freeCount (p .used) → (f : ℕ) × (z ≡ Frame f)
+  granted-by (Frame f) w d k h = (f, refl)
+  granted-by ZeroFrame w d k h = true-not k (d .reading)
+  granted-by (Refused r) w d k h = let s = d .short in absurd (omega arith)
 
-  pub granted : write ≡ true → need (p .nodes) (p .pages) l i ≤ freeCount (p .used) → (f : ℕ) × (r .answer ≡ Shared f)
+  pub granted : write ≡ true → need (p .nodes) (p .pages) l i ≤ freeCount (p .used) → (f : ℕ) × (r .answer ≡ Frame f)
   granted = granted-by (r .answer) (r .work) (K .answers)
 
-  refused-by : (z : Looked) (w : Work) → Answers L p t l i (A l i) write z w → write ≡ true → freeCount (p .used) < need (p .nodes) (p .pages) l i → z ≡ NoMemory
-  refused-by (Shared f) w d k h = let s = d .taken k in absurd (omega arith)
-  refused-by Zero w d k h = true-not k (d .reading)
-  refused-by NoMemory w d k h = refl
-  refused-by (Own f u) w d k h = absurd d
-  refused-by (New f) w d k h = absurd d
-  refused-by Stopped w d k h = absurd d
+  refused-by : (z : Committed) (w : Work) → Answered L p t l i (A l i) write z w → write ≡ true → freeCount (p .used) < need (p .nodes) (p .pages) l i → z ≡ Refused NoMemory
+  refused-by (Frame f) w d k h = let s = d .taken k in absurd (omega arith)
+  refused-by ZeroFrame w d k h = true-not k (d .reading)
+  refused-by (Refused r) w d k h = ap Refused (d .answer)
 
-  pub refused : write ≡ true → freeCount (p .used) < need (p .nodes) (p .pages) l i → r .answer ≡ NoMemory
+  pub refused : write ≡ true → freeCount (p .used) < need (p .nodes) (p .pages) l i → r .answer ≡ Refused NoMemory
   refused = refused-by (r .answer) (r .work) (K .answers)
 
 -- a pool has the arrays of one set only

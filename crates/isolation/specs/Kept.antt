@@ -8,9 +8,12 @@ use Rattle.entry.specs.declared.PageState.{PageState}
 use Rattle.tables.specs.Pool.{Pool, poolOf}
 use Rattle.tables.specs.Tables.{slotAt}
 use Rattle.frames.specs.Frames.{freeCount, freeFrameIn}
-use Rattle.lookup.specs.declared.Looked.{Looked}
-use Rattle.lookup.specs.declared.Looked.the-variants.{Shared, Zero, Own, New, NoMemory, Stopped}
-use Rattle.lookup.specs.Work.{Work, workOf, Looking}
+use Rattle.outcome.specs.declared.answer.Refusal.{Refusal}
+use Rattle.outcome.specs.declared.answer.Refusal.the-variants.{NoMemory}
+use Rattle.lookup.specs.declared.Committed.{Committed}
+use Rattle.lookup.specs.declared.Committed.the-variants.{Frame, ZeroFrame, Refused}
+use Rattle.lookup.specs.Work.{Work, workOf}
+use Rattle.lookup.specs.Commit.{Committing}
 use Rattle.outcome.specs.Told.{Told}
 use Rattle.sound.specs.Facts.{Holds}
 use Rattle.isolation.specs.Walk.{Over}
@@ -38,22 +41,20 @@ pub record Zeros (L : ℕ) (p : Pool) (t : Told) (a : ℕ → ℕ) (write : Bool
   pub bytes : (k : ℕ) → k < L → a k ≡ 0
   pub same : w ≡ workIn p t
 
--- the page needs more frames than were free, and those are all taken
-pub record Refuses (p : Pool) (l i : ℕ) (write : Bool) (w : Work) : Type 0 where
+-- NO_MEMORY: the page needs more frames than were free, and those are all taken
+pub record Scarce (p : Pool) (l i : ℕ) (write : Bool) (why : Refusal) (w : Work) : Type 0 where
+  pub answer : why ≡ NoMemory
   pub writing : write ≡ true
   pub short : freeCount (p .used) < need (p .nodes) (p .pages) l i
   pub no-frame : freeFrameIn (w .used) ≡ Nothing
 
-abbrev pub Answers : ℕ → Pool → Told → ℕ → ℕ → (ℕ → ℕ) → Bool → Looked → Work → Type 0
-Answers L p t l i a write (Shared f) w = Gives L p l i a write f w
-Answers L p t l i a write Zero w = Zeros L p t a write w
-Answers L p t l i a write NoMemory w = Refuses p l i write w
-Answers L p t l i a write (Own f u) w = ⊥
-Answers L p t l i a write (New f) w = ⊥
-Answers L p t l i a write Stopped w = ⊥
+abbrev pub Answered : ℕ → Pool → Told → ℕ → ℕ → (ℕ → ℕ) → Bool → Committed → Work → Type 0
+Answered L p t l i a write (Frame f) w = Gives L p l i a write f w
+Answered L p t l i a write ZeroFrame w = Zeros L p t a write w
+Answered L p t l i a write (Refused r) w = Scarce p l i write r w
 
 -- entries change at the page itself and at pages above it alone
-pub record Kept (L : ℕ) (A : ℕ → ℕ → ℕ → ℕ) (p : Pool) (t : Told) (l i : ℕ) (write : Bool) (r : Looking) : Type 0 where
+pub record Kept (L : ℕ) (A : ℕ → ℕ → ℕ → ℕ) (p : Pool) (t : Told) (l i : ℕ) (write : Bool) (r : Committing) : Type 0 where
   pub private : Private L A (poolWith p (r .work))
   pub only : (a b : ℕ) → (a ≡ l → b ≡ i → ⊥) → (Over (linksOf (p .nodes)) l i a b → ⊥) → slotAt (r .work .pages) a b ≡ slotAt (p .pages) a b
-  pub answers : Answers L p t l i (A l i) write (r .answer) (r .work)
+  pub answers : Answered L p t l i (A l i) write (r .answer) (r .work)

@@ -12,12 +12,12 @@ use Rattle.logic.specs.Below.{allBelow, copied, zeroed}
 use Rattle.logic.proofs.Laws.{and-left, and-right, and-both, all-below, below-all, copied-length, zeroed-length}
 use Rattle.blocks.specs.declared.BlockRange.{BlockRange}
 use Rattle.frames.specs.Frames.{pastedAt, blankAt}
-use Rattle.lookup.specs.declared.Looked.{Looked}
-use Rattle.lookup.specs.declared.Looked.the-variants as K
-use Rattle.seek.specs.declared.Sought.{Sought}
-use Rattle.seek.specs.declared.Sought.the-variants.{Shared, Zero, Absent, Moves, Stops}
+use Rattle.lookup.specs.declared.Committed.{Committed}
+use Rattle.lookup.specs.declared.Committed.the-variants.{Frame, ZeroFrame}
+use Rattle.lookup.specs.declared.End.{End}
+use Rattle.lookup.specs.declared.End.the-variants.{Has, Bare, Tired}
 use Rattle.page.specs.Pages.{fetchedBy}
-use Rattle.peek.specs.Peek.{blankByte, zeroPageOf, placeBy, frameBytes, shownAt}
+use Rattle.peek.specs.Peek.{blankByte, zeroPageOf, shownBy, frameBytes, shownAt}
 use Rattle.shows.specs.Shows.{ReadAs}
 use Rattle.lookups.proofs.Bytes.{frame-room, copied-inside, zeroed-inside}
 
@@ -83,15 +83,13 @@ module _ (L F : ℕ) (m : List ℕ) (memory : length m ≡ F * L) (zero : List �
   room : (f : ℕ) → f < F → f * L + L ≤ length m
   room f l = let r = frame-room L F f l in omega arith
 
-  pub shown-length : (s : Sought) (z : Looked) → ReadAs F s z → length (shownAt L m zero (placeBy s)) ≡ L
-  shown-length (Shared f) z a = frame-length L m f (room f (a .1))
-  shown-length (Moves f) z a = frame-length L m f (room f (a .1))
-  shown-length Zero z a = zero-length L zero good
-  shown-length Absent z a = absurd a
-  shown-length Stops z a = absurd a
+  pub shown-length : (x : End) (z : Committed) → ReadAs F x z → length (shownAt L m zero (shownBy x)) ≡ L
+  shown-length (Has s) z a = frame-length L m (s .frame) (room (s .frame) (a .1))
+  shown-length Bare z a = zero-length L zero good
+  shown-length Tired z a = absurd a
 
   module _ (buf : List ℕ) (whole : length buf ≡ L) (b : BlockRange) (begin : b .begin ≡ 0) (end : b .end ≡ L) where
-    frame-filled : (f : ℕ) → f < F → frameBytes L m f ≡ fetchedBy L 0 b (K.Shared f) m buf
+    frame-filled : (f : ℕ) → f < F → frameBytes L m f ≡ fetchedBy L 0 b (Frame f) m buf
     unfolding fetchedBy pastedAt
     frame-filled f l =
         let e : f * L + 0 ≡ f * L = omega arith in
@@ -100,15 +98,13 @@ module _ (L F : ℕ) (m : List ℕ) (memory : length m ≡ F * L) (zero : List �
         rw (begin, end, e, d, le-leb (0 + L) (length buf) (omega arith), le-leb (f * L + L) (length m) r)
         (frame-is L m f r ∙ sym (copied-whole buf m (f * L) L whole r))
 
-    zero-filled : zero ≡ fetchedBy L 0 b K.Zero m buf
+    zero-filled : zero ≡ fetchedBy L 0 b ZeroFrame m buf
     unfolding fetchedBy blankAt
     zero-filled =
         let d : L - 0 ≡ L = omega arith in
         rw (begin, end, d, le-leb (0 + L) (length buf) (omega arith)) (sym (zeroed-whole L zero good buf whole))
 
-    pub shown-filled : (s : Sought) (z : Looked) → ReadAs F s z → shownAt L m zero (placeBy s) ≡ fetchedBy L 0 b z m buf
-    shown-filled (Shared f) z a = rw (a .0) (frame-filled f (a .1))
-    shown-filled (Moves f) z a = rw (a .0) (frame-filled f (a .1))
-    shown-filled Zero z a = rw a zero-filled
-    shown-filled Absent z a = absurd a
-    shown-filled Stops z a = absurd a
+    pub shown-filled : (x : End) (z : Committed) → ReadAs F x z → shownAt L m zero (shownBy x) ≡ fetchedBy L 0 b z m buf
+    shown-filled (Has s) z a = rw (a .0) (frame-filled (s .frame) (a .1))
+    shown-filled Bare z a = rw a zero-filled
+    shown-filled Tired z a = absurd a

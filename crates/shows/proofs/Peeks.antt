@@ -10,7 +10,8 @@ use Rattle.logic.specs.Pick.{pick}
 use Rattle.tables.specs.Pool.{Pool}
 use Rattle.sound.specs.Facts.{Leaf, Sound}
 use Rattle.soundness.proofs.Soundness.{sound-facts}
-use Rattle.seek.specs.Seek.{seekPage}
+use Rattle.lookup.specs.Mode.{today, placeOf}
+use Rattle.lookup.specs.Descent.{walk}
 use Rattle.outcome.specs.declared.answer.Answer.the-variants.{Done, Refused}
 use Rattle.outcome.specs.declared.answer.Refusal.{Refusal}
 use Rattle.outcome.specs.declared.answer.Refusal.the-variants.{BadPool, NoObject}
@@ -26,7 +27,7 @@ use Rattle.page.specs.Pages.{readOf}
 use Rattle.ranges.specs.Ranges.{filled, againstReading, readRange, readAt, read}
 use Rattle.peek.specs.declared.Shown.{Shown}
 use Rattle.peek.specs.declared.Shown.the-variants.{Nowhere}
-use Rattle.peek.specs.Peek.{zeroPageOf, placeBy, placeAt, place, shownAt, peek}
+use Rattle.peek.specs.Peek.{zeroPageOf, shownBy, placeAt, place, shownAt, peek}
 use Rattle.shows.specs.Shows.{Peeked, Refuses}
 use Rattle.shows.specs.Shows.Peeked.{nothing, bytes}
 use Rattle.shows.proofs.Whole.{page-read}
@@ -61,7 +62,7 @@ module _ (L : ℕ) (p : Pool) (zero : List ℕ) (object page : ℕ) (buf : List 
 
   module _ (good : zeroPageOf L zero ≡ true) where
     node-by : Sound L p → Leaf (p .nodes) object → (a : Against)
-        → Peeked L (shownAt L (p .memory) zero (unless a (λ r. Nowhere) (placeBy (seekPage (p .nodes) (p .pages) object page false))))
+        → Peeked L (shownAt L (p .memory) zero (unless a (λ r. Nowhere) (shownBy (walk (today L (p .nodes) (p .mappings)) 64 (p .pages) (placeOf object page object) .end))))
         (unless a (refused p [] buf) (filled p (readRange L (p .nodes) (p .mappings) object (page * L) (readOf (p .pages) (p .used) (p .memory) buf))))
     node-by s leaf (Why r) = nothing r refl refl
     node-by s leaf Fine = page-read L p s object page leaf zero good buf whole

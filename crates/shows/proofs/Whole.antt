@@ -14,22 +14,23 @@ use Rattle.blocks.specs.declared.Next.the-variants.{Block}
 use Rattle.blocks.specs.Blocks.{iterOf, nextOf, countOf}
 use Rattle.tables.specs.Pool.{Pool}
 use Rattle.outcome.specs.Told.{toldOf}
-use Rattle.lookup.specs.declared.Looked.{Looked}
-use Rattle.lookup.specs.Work.{workOf, Looking}
-use Rattle.lookup.specs.Lookup.{look}
+use Rattle.lookup.specs.declared.Committed.{Committed}
+use Rattle.lookup.specs.Work.{workOf}
+use Rattle.lookup.specs.Commit.{Committing, commitLeaf}
 use Rattle.sound.specs.Facts.{Leaf, Sound}
-use Rattle.seek.specs.declared.Sought.{Sought}
-use Rattle.seek.specs.declared.Sought.the-variants.{Shared, Zero, Absent, Moves, Stops}
-use Rattle.seek.specs.Seek.{seekPage}
+use Rattle.lookup.specs.declared.End.{End}
+use Rattle.lookup.specs.declared.End.the-variants.{Has, Bare, Tired}
+use Rattle.lookup.specs.Mode.{today, placeOf}
+use Rattle.lookup.specs.Descent.{walk}
 use Rattle.outcome.specs.declared.answer.Against.the-variants.{Nothing as Fine}
 use Rattle.page.specs.Each.{Part, partOf, onward, each}
 use Rattle.page.specs.Pages.{againstRead, Read, readOf, lookRead, readThrough, readBy, readPage}
 use Rattle.ranges.specs.Ranges.{filled, readRange}
 use Rattle.arrays.proofs.Blocks.{cut, count-none}
-use Rattle.peek.specs.Peek.{zeroPageOf, placeBy, shownAt}
+use Rattle.peek.specs.Peek.{zeroPageOf, shownBy, shownAt}
 use Rattle.shows.specs.Shows.{ReadAs, Sees, Peeked}
 use Rattle.shows.specs.Shows.Peeked.{bytes}
-use Rattle.shows.proofs.Walk.{seek-reads}
+use Rattle.shows.proofs.Walk.{walk-reads}
 use Rattle.shows.proofs.Bytes.{shown-length, shown-filled}
 
 -- the range of one page is one block
@@ -67,19 +68,17 @@ each-one : {C S : Type 0} (step : C → S → Part C S) (c : C) (s : S) → step
 unfolding each onward
 each-one step c s h = rw h
 
-fine : (F : ℕ) (s : Sought) (z : Looked) → ReadAs F s z → againstRead z ≡ Fine
-fine F (Shared f) z a = rw (a .0)
-fine F (Moves f) z a = rw (a .0)
-fine F Zero z a = rw a
-fine F Absent z a = absurd a
-fine F Stops z a = absurd a
+fine : (F : ℕ) (x : End) (z : Committed) → ReadAs F x z → againstRead z ≡ Fine
+fine F (Has s) z a = rw (a .0)
+fine F Bare z a = rw a
+fine F Tired z a = absurd a
 
 module _ (L : ℕ) (one : 1 ≤ L) (p : Pool) (sound : Sound L p) (n page : ℕ) (leaf : Leaf (p .nodes) n) (zero : List ℕ) (good : zeroPageOf L zero ≡ true) (buf : List ℕ) (whole : length buf ≡ L) where
-  abbrev looked : Looking
-  looked = look L 64 (p .nodes) (p .mappings) (workOf (p .pages) (p .used) (p .memory) (toldOf [] 0)) n page false n
+  abbrev looked : Committing
+  looked = commitLeaf L (p .nodes) (p .mappings) (workOf (p .pages) (p .used) (p .memory) (toldOf [] 0)) n page false
 
-  sees : Sees (length (p .used)) (seekPage (p .nodes) (p .pages) n page false) (workOf (p .pages) (p .used) (p .memory) (toldOf [] 0)) looked
-  sees = seek-reads L p sound (p .mappings) (p .used) (p .memory) (toldOf [] 0) n page leaf
+  sees : Sees (length (p .used)) (walk (today L (p .nodes) (p .mappings)) 64 (p .pages) (placeOf n page n) .end) (workOf (p .pages) (p .used) (p .memory) (toldOf [] 0)) looked
+  sees = walk-reads L p sound (p .mappings) (p .used) (p .memory) (toldOf [] 0) n page leaf
 
   w : Whole L page
   w = whole-page L page one
@@ -94,7 +93,7 @@ module _ (L : ℕ) (one : 1 ≤ L) (p : Pool) (sound : Sound L p) (n page : ℕ)
 
   gone-fine : gone .why ≡ Fine
   unfolding readThrough lookRead
-  gone-fine = fine (length (p .used)) (seekPage (p .nodes) (p .pages) n page false) (looked .answer) (sees .answer)
+  gone-fine = fine (length (p .used)) (walk (today L (p .nodes) (p .mappings)) 64 (p .pages) (placeOf n page n) .end) (looked .answer) (sees .answer)
 
   range-is : readRange L (p .nodes) (p .mappings) n (page * L) (readOf (p .pages) (p .used) (p .memory) buf) ≡ partOf Fine (gone .rest) (gone .state)
   unfolding readRange
@@ -103,18 +102,18 @@ module _ (L : ℕ) (one : 1 ≤ L) (p : Pool) (sound : Sound L p) (n page : ℕ)
       (each-one (readPage L (p .nodes) (p .mappings) n (page * L)) (iterOf (page * L) (page * L + L)) (readOf (p .pages) (p .used) (p .memory) buf) (ap (λ (q : Part BlockIter Read). q .why) step-is ∙ gone-fine)
       ∙ ap (λ (q : Part BlockIter Read). partOf Fine (q .rest) (q .state)) step-is)
 
-  gone-bytes : shownAt L (p .memory) zero (placeBy (seekPage (p .nodes) (p .pages) n page false)) ≡ gone .state .buf
+  gone-bytes : shownAt L (p .memory) zero (shownBy (walk (today L (p .nodes) (p .mappings)) 64 (p .pages) (placeOf n page n) .end)) ≡ gone .state .buf
   unfolding readThrough lookRead
   gone-bytes =
       rw (sees .memory)
-      (shown-filled L (length (p .used)) (p .memory) (sound .lengths .memory) zero good buf whole (w .block) (w .begin) (w .end) (seekPage (p .nodes) (p .pages) n page false) (looked .answer) (sees .answer))
+      (shown-filled L (length (p .used)) (p .memory) (sound .lengths .memory) zero good buf whole (w .block) (w .begin) (w .end) (walk (today L (p .nodes) (p .mappings)) 64 (p .pages) (placeOf n page n) .end) (looked .answer) (sees .answer))
 
-  some-read : Peeked L (shownAt L (p .memory) zero (placeBy (seekPage (p .nodes) (p .pages) n page false))) (filled p (readRange L (p .nodes) (p .mappings) n (page * L) (readOf (p .pages) (p .used) (p .memory) buf)))
+  some-read : Peeked L (shownAt L (p .memory) zero (shownBy (walk (today L (p .nodes) (p .mappings)) 64 (p .pages) (placeOf n page n) .end))) (filled p (readRange L (p .nodes) (p .mappings) n (page * L) (readOf (p .pages) (p .used) (p .memory) buf)))
   unfolding filled
   some-read =
       rw range-is
       (bytes refl gone-bytes
-      (shown-length L (length (p .used)) (p .memory) (sound .lengths .memory) zero good (seekPage (p .nodes) (p .pages) n page false) (looked .answer) (sees .answer)))
+      (shown-length L (length (p .used)) (p .memory) (sound .lengths .memory) zero good (walk (today L (p .nodes) (p .mappings)) 64 (p .pages) (placeOf n page n) .end) (looked .answer) (sees .answer)))
 
 -- with pages of no bytes there is no step, and nothing to show
 
@@ -123,13 +122,13 @@ no-bytes a b x y = ext-getD 0 a b (x ∙ sym y) (λ i l. absurd (omega arith))
 
 module _ (L : ℕ) (p : Pool) (sound : Sound L p) (n page : ℕ) (leaf : Leaf (p .nodes) n) (zero : List ℕ) (good : zeroPageOf L zero ≡ true) (buf : List ℕ) (whole : length buf ≡ L) where
   abbrev Same : Type 0
-  Same = Peeked L (shownAt L (p .memory) zero (placeBy (seekPage (p .nodes) (p .pages) n page false))) (filled p (readRange L (p .nodes) (p .mappings) n (page * L) (readOf (p .pages) (p .used) (p .memory) buf)))
+  Same = Peeked L (shownAt L (p .memory) zero (shownBy (walk (today L (p .nodes) (p .mappings)) 64 (p .pages) (placeOf n page n) .end))) (filled p (readRange L (p .nodes) (p .mappings) n (page * L) (readOf (p .pages) (p .used) (p .memory) buf)))
 
   none-read : L ≡ 0 → Same
   unfolding filled readRange each
   none-read z =
-      let s = seek-reads L p sound (p .mappings) (p .used) (p .memory) (toldOf [] 0) n page leaf in
-      let l = shown-length L (length (p .used)) (p .memory) (sound .lengths .memory) zero good (seekPage (p .nodes) (p .pages) n page false) _ (s .answer) in
+      let s = walk-reads L p sound (p .mappings) (p .used) (p .memory) (toldOf [] 0) n page leaf in
+      let l = shown-length L (length (p .used)) (p .memory) (sound .lengths .memory) zero good (walk (today L (p .nodes) (p .mappings)) 64 (p .pages) (placeOf n page n) .end) _ (s .answer) in
       rw (count-none L (page * L) (page * L + length buf) (omega arith)) (bytes refl (no-bytes _ buf (l ∙ z) (whole ∙ z)) l)
 
   pub page-read : Same

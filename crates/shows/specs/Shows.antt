@@ -4,27 +4,26 @@ use mathlib.Core.Path.{_≡_}
 use mathlib.Core.List.{List, []}
 use Prim.Native.Nat.{ℕ, _<_}
 use lib.ListN.{length, getD}
-use Rattle.lookup.specs.declared.Looked.{Looked}
-use Rattle.lookup.specs.declared.Looked.the-variants as K
-use Rattle.lookup.specs.Work.{Work, Looking}
-use Rattle.seek.specs.declared.Sought.{Sought}
-use Rattle.seek.specs.declared.Sought.the-variants.{Shared, Zero, Absent, Moves, Stops}
+use Rattle.lookup.specs.declared.End.{End}
+use Rattle.lookup.specs.declared.End.the-variants.{Has, Bare, Tired}
+use Rattle.lookup.specs.declared.Committed.{Committed}
+use Rattle.lookup.specs.declared.Committed.the-variants.{Frame, ZeroFrame}
+use Rattle.lookup.specs.Work.{Work}
+use Rattle.lookup.specs.Commit.{Committing}
 use Rattle.outcome.specs.declared.answer.Answer.the-variants.{Done, Refused}
 use Rattle.outcome.specs.declared.answer.Refusal.{Refusal}
 use Rattle.outcome.specs.declared.answer.Answer.{Answer}
 use Rattle.outcome.specs.Outcome.{Outcome, refused}
 
 -- lookup answers the frame found, one of F, whether it would move or not, or zeros; the walk never ends without
-abbrev pub ReadAs : ℕ → Sought → Looked → Type 0
-ReadAs F (Shared f) z = (z ≡ K.Shared f) × (f < F)
-ReadAs F (Moves f) z = (z ≡ K.Shared f) × (f < F)
-ReadAs F Zero z = z ≡ K.Zero
-ReadAs F Absent z = ⊥
-ReadAs F Stops z = ⊥
+abbrev pub ReadAs : ℕ → End → Committed → Type 0
+ReadAs F (Has s) z = (z ≡ Frame (s .frame)) × (s .frame < F)
+ReadAs F Bare z = z ≡ ZeroFrame
+ReadAs F Tired z = ⊥
 
 -- and it changes no more than page entries
-pub record Sees (F : ℕ) (s : Sought) (w : Work) (r : Looking) : Type 0 where
-  pub answer : ReadAs F s (r .answer)
+pub record Sees (F : ℕ) (x : End) (w : Work) (r : Committing) : Type 0 where
+  pub answer : ReadAs F x (r .answer)
   pub used : r .work .used ≡ w .used
   pub memory : r .work .memory ≡ w .memory
   pub told : r .work .told ≡ w .told
