@@ -35,7 +35,7 @@ use Rattle.shows.proofs.Whole.{page-read}
 -- where a test fails nothing is shown, whatever the page length
 
 module _ (L : ℕ) (p : Pool) (zero : List ℕ) (object page : ℕ) where
-  at-good : (b : Bool) (x : Place) → (zeroPageOf L zero ≡ true → x ≡ Nowhere) → zeroPageOf L zero ≡ b → shownAt L (p .memory) zero (pick b x Nowhere) ≡ []
+  at-good : (b : Bool) (x : Shown) → (zeroPageOf L zero ≡ true → x ≡ Nowhere) → zeroPageOf L zero ≡ b → shownAt L (p .memory) zero (pick b x Nowhere) ≡ []
   at-good true x n e = rw (n e)
   at-good false x n e = refl
 
