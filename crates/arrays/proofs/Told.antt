@@ -137,7 +137,7 @@ module _ (p : Pool) (pages : ℕ) {C : Type 0} (range : Work → Part C Work) (g
   inside-told same false why s = silent (λ list. refl)
 
 pub write-loses-none : (L : ℕ) (p : Pool) (object offset : ℕ) (bytes : List ℕ)
-    → TellsAll (λ list. write L p list object offset bytes ) (countOf L (iterOf offset (offset + length bytes)) * liveCount (p .mappings))
+    → TellsAll (λ list. write L p list object offset bytes) (countOf L (iterOf offset (offset + length bytes)) * liveCount (p .mappings))
 unfolding writeAt againstWriting writeThrough writeRange written rangedBy
 write-loses-none L p object offset bytes =
     object-told L p object (λ list n. writeAt L p list n offset bytes) (λ s l. by s l (cachedOf (nodeOf (p .nodes) object)))
@@ -153,7 +153,7 @@ write-loses-none L p object offset bytes =
         (each-passes (writePage L (p .nodes) (p .mappings) object offset bytes) (liveCount (p .mappings)) (write-passes L p s object l (p .mappings) offset bytes) k (iterOf offset (offset + length bytes)) (workIn p []))
     by s l false = silent (λ list. refl)
 
-pub commit-range-loses-none : (L : ℕ) (p : Pool) (object offset len : ℕ) → TellsAll (λ list. commit L p list object offset len ) (len / L * liveCount (p .mappings))
+pub commit-range-loses-none : (L : ℕ) (p : Pool) (object offset len : ℕ) → TellsAll (λ list. commit L p list object offset len) (len / L * liveCount (p .mappings))
 unfolding commitAt againstCommitting commitThrough commitRange committed rangedBy
 commit-range-loses-none L p object offset len =
     object-told L p object (λ list n. commitAt L p list n offset len)
