@@ -5,19 +5,18 @@ use mathlib.Core.List.{List, []}
 use mathlib.Core.Logic.{_⊎_, inl, inr}
 use Prim.Native.Nat.{ℕ, _+_, _*_, _/_, _≤_}
 use native.Mathlib.Omega.{arith}
-use lib.Dec.{leb, ltb}
+use lib.Dec.{leb}
 use lib.ListN.{length, getD}
 use borrow.Author.Tests.{leb-true, leb-false}
 use Rattle.logic.specs.Pick.{pick}
 use Rattle.logic.specs.declared.Found.{Found}
 use Rattle.logic.specs.declared.Found.the-variants.{At, Nothing}
 use Rattle.blocks.specs.Blocks.{iterOf, countOf}
-use Rattle.node.specs.Node.{leafOf, cachedOf, containsOf}
+use Rattle.node.specs.Node.{cachedOf, containsOf}
 use Rattle.tables.specs.Pool.{Pool}
 use Rattle.tables.specs.Tables.{nodeOf, freeNodeIn, freeNodeFrom}
 use Rattle.outcome.specs.declared.notice.Notice.{Notice}
 use Rattle.outcome.specs.Told.{Told, toldOf}
-use Rattle.sound.specs.Sound.{sound}
 use Rattle.sound.specs.Facts.{Leaf, Sound}
 use Rattle.soundness.proofs.Soundness.{sound-facts}
 use Rattle.lookup.specs.Work.{Work}

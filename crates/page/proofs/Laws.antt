@@ -1,8 +1,8 @@
 -- One law for each way through one page. Assumes nothing.
-use mathlib.Core.Path.{_≡_, refl, sym, ap, _∙_}
+use mathlib.Core.Path.{_≡_, sym, ap, _∙_}
 use mathlib.Core.Bool.{true, false}
 use mathlib.Core.List.{List, []}
-use Prim.Native.Nat.{ℕ, _+_, _-_, _*_, _/_, _≤_, _<_}
+use Prim.Native.Nat.{ℕ, _+_, _-_, _*_, _≤_, _<_}
 use native.Mathlib.Omega.{arith}
 use Rattle.node.specs.Node.{byteLimit}
 use Rattle.blocks.specs.declared.BlockIter.{BlockIter}
@@ -14,8 +14,8 @@ use Rattle.blocks.proofs.Cut.{First, first-of}
 use Rattle.frames.specs.Frames.{pastedAt, blankAt}
 use Rattle.outcome.specs.Told.{Told, toldOf}
 use Rattle.lookup.specs.declared.Looked.{Looked}
-use Rattle.lookup.specs.declared.Looked.the-variants.{Shared, Zero, Own, New, NoMemory, Stopped}
-use Rattle.lookup.specs.Work.{Work, workOf, Looking, lookingOf}
+use Rattle.lookup.specs.declared.Looked.the-variants.{Shared, Zero}
+use Rattle.lookup.specs.Work.{Work, workOf, lookingOf}
 use Rattle.lookup.specs.Lookup.{look}
 use Rattle.outcome.specs.declared.answer.Refusal.{Refusal}
 use Rattle.outcome.specs.declared.answer.Against.{Against}
