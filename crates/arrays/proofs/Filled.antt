@@ -1,12 +1,9 @@
 -- A refused read fills no byte, in every pool. Assumes nothing.
 use mathlib.Core.Path.{_≡_, refl}
-use mathlib.Core.Bool.{Bool, true, false}
 use mathlib.Core.List.{List, []}
 use Prim.Native.Nat.{ℕ}
 use native.Mathlib.Omega.{arith}
-use lib.Dec.{ltb}
 use lib.ListN.{length}
-use Rattle.logic.specs.Pick.{pick}
 use Rattle.blocks.specs.declared.BlockIter.{BlockIter}
 use Rattle.blocks.specs.declared.Next.{Next}
 use Rattle.blocks.specs.declared.Next.the-variants.{Block, Done as NoBlock}

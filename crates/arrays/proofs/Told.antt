@@ -5,19 +5,18 @@ use mathlib.Core.List.{List, []}
 use mathlib.Core.Logic.{_⊎_, inl, inr}
 use Prim.Native.Nat.{ℕ, _+_, _*_, _/_, _≤_}
 use native.Mathlib.Omega.{arith}
-use lib.Dec.{leb, ltb}
+use lib.Dec.{leb}
 use lib.ListN.{length, getD}
 use borrow.Author.Tests.{leb-true, leb-false}
 use Rattle.logic.specs.Pick.{pick}
 use Rattle.logic.specs.declared.Found.{Found}
 use Rattle.logic.specs.declared.Found.the-variants.{At, Nothing}
 use Rattle.blocks.specs.Blocks.{iterOf, countOf}
-use Rattle.node.specs.Node.{leafOf, cachedOf, containsOf}
+use Rattle.node.specs.Node.{cachedOf, containsOf}
 use Rattle.tables.specs.Pool.{Pool}
 use Rattle.tables.specs.Tables.{nodeOf, freeNodeIn, freeNodeFrom}
 use Rattle.outcome.specs.declared.notice.Notice.{Notice}
 use Rattle.outcome.specs.Told.{Told, toldOf}
-use Rattle.sound.specs.Sound.{sound}
 use Rattle.sound.specs.Facts.{Leaf, Sound}
 use Rattle.soundness.proofs.Soundness.{sound-facts}
 use Rattle.lookup.specs.Work.{Work}
@@ -138,7 +137,7 @@ module _ (p : Pool) (pages : ℕ) {C : Type 0} (range : Work → Part C Work) (g
   inside-told same false why s = silent (λ list. refl)
 
 pub write-loses-none : (L : ℕ) (p : Pool) (object offset : ℕ) (bytes : List ℕ)
-    → TellsAll (λ list. write L p list object offset bytes ) (countOf L (iterOf offset (offset + length bytes)) * liveCount (p .mappings))
+    → TellsAll (λ list. write L p list object offset bytes) (countOf L (iterOf offset (offset + length bytes)) * liveCount (p .mappings))
 unfolding writeAt againstWriting writeThrough writeRange written rangedBy
 write-loses-none L p object offset bytes =
     object-told L p object (λ list n. writeAt L p list n offset bytes) (λ s l. by s l (cachedOf (nodeOf (p .nodes) object)))
@@ -154,7 +153,7 @@ write-loses-none L p object offset bytes =
         (each-passes (writePage L (p .nodes) (p .mappings) object offset bytes) (liveCount (p .mappings)) (write-passes L p s object l (p .mappings) offset bytes) k (iterOf offset (offset + length bytes)) (workIn p []))
     by s l false = silent (λ list. refl)
 
-pub commit-range-loses-none : (L : ℕ) (p : Pool) (object offset len : ℕ) → TellsAll (λ list. commit L p list object offset len ) (len / L * liveCount (p .mappings))
+pub commit-range-loses-none : (L : ℕ) (p : Pool) (object offset len : ℕ) → TellsAll (λ list. commit L p list object offset len) (len / L * liveCount (p .mappings))
 unfolding commitAt againstCommitting commitThrough commitRange committed rangedBy
 commit-range-loses-none L p object offset len =
     object-told L p object (λ list n. commitAt L p list n offset len)

@@ -15,7 +15,6 @@ use Rattle.sound.specs.Facts.{Leaf, Sound}
 use Rattle.lookup.specs.declared.Committed.{Committed}
 use Rattle.lookup.specs.Work.{Work, workOf}
 use Rattle.lookup.specs.Commit.{Committing, commitLeaf}
-use Rattle.outcome.specs.declared.answer.Answer.the-variants.{Refused}
 use Rattle.outcome.specs.declared.answer.Refusal.the-variants.{NoRoom}
 use Rattle.pool.specs.declared.entering.Entered.the-variants.{At}
 use Rattle.pool.specs.Calls.{entered, onEntered, onObject}

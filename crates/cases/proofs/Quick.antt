@@ -13,7 +13,7 @@ use Rattle.blocks.specs.Blocks.{pagesOf, blockEnd, nextBy, nextOf, countOf}
 use Rattle.tables.specs.Pool.{Pool}
 use Rattle.tables.specs.Tables.{wordOf, withWord, recordOf, nodeOf, withFive, withNode, entryOf, slotAt, withEntry, withState, withoutState, rowMoved, mappingOf, numberOf, isFree, freeNodeIn, freeNodeFrom}
 use Rattle.frames.specs.Frames.{idleOf, oneIdle, freeCount, freeFrameIn, pastedAt, blankAt, clearedAt, copiedAt}
-use Rattle.outcome.specs.Told.{putNotice, toldOf}
+use Rattle.outcome.specs.Told.{putNotice}
 use Rattle.notices.specs.Notices.{overlapOf, tellPlace, tellObject, childOf, rangeChange}
 use Rattle.lookup.specs.Lookup.{asksOf, cleared, freshBy, fresh, partBy, part, otherTold, shareOr, hiddenStep, leafTold, settleBy, settle, handedBy, enter, look}
 use Rattle.sound.specs.Sound.{sound}
@@ -29,7 +29,7 @@ use Rattle.page.specs.Pages.{storedBy, wrotePage, writeBy, writePage, fetchedBy
 use Rattle.ranges.specs.Ranges.{rangedBy, againstWriting, writeRange, written, writeThrough, writeAt, againstReading, readRange, filled, readAt}
 use Rattle.births.proofs.Calls.{new-sound, child-sound}
 use Rattle.arrays.proofs.Sound.{read-sound, write-sound}
-use Rattle.cases.specs.Script.{Line, Reply, Step, stepOf, says, byOutcome, byFilled, blot, step, Row, repliesBy, repliesIn, Table}
+use Rattle.cases.specs.Script.{Line, Result, Step, stepOf, says, byOutcome, byFilled, blot, step, Row, repliesBy, repliesIn, Table}
 use Rattle.cases.specs.Script.Line.{New, Child, Write, Read, Free}
 
 -- an object entered, after the sound test
@@ -69,7 +69,7 @@ module _ (L : ℕ) where
   quick-replies p s [] = refl
   quick-replies p s (r ∷ rows) =
       let e = quick-is p s (r .line) in
-      rw (← e) (ap (λ (rs : List Reply). step L p (r .line) .reply ∷ rs) (quick-replies (step L p (r .line) .pool) (step-sound p s (r .line)) rows))
+      rw (← e) (ap (λ (rs : List Result). step L p (r .line) .reply ∷ rs) (quick-replies (step L p (r .line) .pool) (step-sound p s (r .line)) rows))
 
   pub quickly : (p : Pool) → sound L p ≡ true → {rows : List Row} → repliesBy (quick L) p rows ≡ repliesIn rows → Table L p rows
   quickly p s {rows} e = record { answered = quick-replies p s rows ∙ e }

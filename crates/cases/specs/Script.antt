@@ -26,29 +26,29 @@ pub data Line : Type 0 where
   Free : Line
 
 -- document 01's number and value; the bytes that an accepted read gave
-pub record Reply : Type 0 where
+pub record Result : Type 0 where
   pub code : ℕ
   pub value : ℕ
   pub bytes : List ℕ
 
-abbrev pub says : ℕ → ℕ → Reply
+abbrev pub says : ℕ → ℕ → Result
 says c v = record { code = c; value = v; bytes = [] }
 
-abbrev pub reads : List ℕ → Reply
+abbrev pub reads : List ℕ → Result
 reads b = record { code = 0; value = 0; bytes = b }
 
 pub record Step : Type 0 where
-  pub reply : Reply
+  pub reply : Result
   pub pool : Pool
 
-abbrev pub stepOf : Reply → Pool → Step
+abbrev pub stepOf : Result → Pool → Step
 stepOf r p = record { reply = r; pool = p }
 
 -- a call's answer; a refused write gives the bytes done
 abbrev pub byOutcome : Outcome Answer → Step
 byOutcome o = stepOf (says (codeOf (o .answer)) (valueOf (o .answer) (o .done))) (o .pool)
 
-abbrev pub filling : Answer → List ℕ → Reply
+abbrev pub filling : Answer → List ℕ → Result
 filling (Done v) buf = reads buf
 filling (Refused r) buf = says (codeOf (Refused r)) 0
 
@@ -70,17 +70,17 @@ step L p Free = stepOf (says 0 (freeCount (p .used))) p
 infix 70 _⇒_
 pub record Row : Type 0 where
   pub line : Line
-  pub reply : Reply
+  pub reply : Result
 
-abbrev pub _⇒_ : Line → Reply → Row
+abbrev pub _⇒_ : Line → Result → Row
 l ⇒ r = record { line = l; reply = r }
 
 -- the lines, one after the other, are answered so
-unfoldable pub repliesBy : (Pool → Line → Step) → Pool → List Row → List Reply
+unfoldable pub repliesBy : (Pool → Line → Step) → Pool → List Row → List Result
 repliesBy step p [] = []
 repliesBy step p (r ∷ rows) = let s = step p (r .line) in s .reply ∷ repliesBy step (s .pool) rows
 
-unfoldable pub repliesIn : List Row → List Reply
+unfoldable pub repliesIn : List Row → List Result
 repliesIn [] = []
 repliesIn (r ∷ rows) = r .reply ∷ repliesIn rows
 

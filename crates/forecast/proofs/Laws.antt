@@ -2,7 +2,7 @@
 use mathlib.Core.Path.{_≡_, refl, sym, _∙_}
 use mathlib.Core.Bool.{Bool, true, false}
 use mathlib.Core.List.{List}
-use Prim.Native.Nat.{ℕ, _+_, _-_, _*_, _/_, _%_, _≤_, _<_}
+use Prim.Native.Nat.{ℕ, _+_, _-_, _/_, _%_, _≤_, _<_}
 use native.Mathlib.Omega.{arith}
 use lib.Dec.{eqb, leb}
 use borrow.Author.Tests.{le-ltb}
@@ -19,7 +19,7 @@ use Rattle.tables.specs.Pool.{Pool}
 use Rattle.tables.specs.Tables.{nodeOf, entryOf, slotAt}
 use Rattle.outcome.specs.declared.answer.Answer.the-variants.{Done, Refused}
 use Rattle.outcome.specs.declared.answer.Refusal.the-variants.{OutOfRange}
-use Rattle.forecast.specs.Forecast.{oneAbsent, absentAt, yesOf, forecastAnswer, forecast}
+use Rattle.forecast.specs.Forecast.{absentAt, yesOf, forecastAnswer, forecast}
 use Rattle.outcome.proofs.Laws.{Quiet}
 use Rattle.pool.proofs.Laws.{on-object}
 

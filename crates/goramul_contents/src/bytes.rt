@@ -24,7 +24,7 @@ pub extern "C" fn goramul_read(
         outcomeOf (numbersOf r (now (value .exit))) (poolOf (now (nodes .entry)) (now (pages .exit)) (now (used .exit)) (now (mappings .entry)) (now (head .entry)) (now (memory .exit))) (toldOf [] 0) 0 0 (now (buf .exit))
         ≡ inNumbers (read 4096 (poolOf (now (nodes .entry)) (now (pages .entry)) (now (used .entry)) (now (mappings .entry)) (now (head .entry)) (now (memory .entry))) object from (now (buf .entry))) ⌝ }
 {
-    let reply = ranges::read(
+    let filled = ranges::read(
         nodes,
         pages,
         used,
@@ -35,8 +35,8 @@ pub extern "C" fn goramul_read(
         from,
         buf,
     );
-    *value = reply.value();
-    reply.code()
+    *value = filled.value();
+    filled.code()
 }
 
 #[no_mangle]
@@ -59,7 +59,7 @@ pub extern "C" fn goramul_write(
         outcomeOf (numbersOf r (now (value .exit))) (poolOf (now (nodes .entry)) (now (pages .exit)) (now (used .exit)) (now (mappings .entry)) (now (head .entry)) (now (memory .exit))) (toldOf (now (notices .exit)) (now (count .exit))) 0 (now (taken .exit)) []
         ≡ inNumbers (write 4096 (poolOf (now (nodes .entry)) (now (pages .entry)) (now (used .entry)) (now (mappings .entry)) (now (head .entry)) (now (memory .entry))) (now (notices .entry)) object offset (now (bytes .entry))) ⌝ }
 {
-    let reply = ranges::write(
+    let wrote = ranges::write(
         nodes,
         pages,
         used,
@@ -71,10 +71,10 @@ pub extern "C" fn goramul_write(
         offset,
         bytes,
     );
-    *taken = reply.taken as u64;
-    *count = reply.count as u64;
-    *value = reply.value();
-    reply.code()
+    *taken = wrote.taken as u64;
+    *count = wrote.count as u64;
+    *value = wrote.value();
+    wrote.code()
 }
 
 #[no_mangle]
@@ -97,7 +97,7 @@ pub extern "C" fn goramul_commit(
         outcomeOf (numbersOf r (now (value .exit))) (poolOf (now (nodes .entry)) (now (pages .exit)) (now (used .exit)) (now (mappings .entry)) (now (head .entry)) (now (memory .exit))) (toldOf (now (notices .exit)) (now (count .exit))) 0 (now (taken .exit)) []
         ≡ inNumbers (commit 4096 (poolOf (now (nodes .entry)) (now (pages .entry)) (now (used .entry)) (now (mappings .entry)) (now (head .entry)) (now (memory .entry))) (now (notices .entry)) object offset len) ⌝ }
 {
-    let reply = ranges::commit(
+    let committed = ranges::commit(
         nodes,
         pages,
         used,
@@ -109,10 +109,10 @@ pub extern "C" fn goramul_commit(
         offset,
         len,
     );
-    *taken = reply.taken as u64;
-    *count = reply.count as u64;
-    *value = reply.value();
-    reply.code()
+    *taken = committed.taken as u64;
+    *count = committed.count as u64;
+    *value = committed.value();
+    committed.code()
 }
 
 // An export returns no part of a slice, so it says where the part is.

@@ -118,16 +118,7 @@ pub extern "C" fn goramul_remove_mapping(
         outcomeOf (numbersOf r (now (value .exit))) (poolOf (now (nodes .entry)) (now (pages .entry)) (now (used .entry)) (now (mappings .exit)) (now (head .entry)) (now (memory .entry))) (toldOf [] 0) 0 0 []
         ≡ inNumbers (removeMapping 4096 (poolOf (now (nodes .entry)) (now (pages .entry)) (now (used .entry)) (now (mappings .entry)) (now (head .entry)) (now (memory .entry))) object mapping) ⌝ }
 {
-    let reply = mapped::remove_mapping(
-        nodes,
-        pages,
-        used,
-        mappings,
-        head,
-        memory,
-        object,
-        mapping,
-    );
+    let reply = mapped::remove_mapping(nodes, pages, used, mappings, head, memory, object, mapping);
     *value = reply.value();
     reply.code()
 }

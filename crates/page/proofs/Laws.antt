@@ -1,8 +1,8 @@
 -- One law for each way through one page. Assumes nothing.
-use mathlib.Core.Path.{_≡_, refl, sym, ap, _∙_}
+use mathlib.Core.Path.{_≡_, sym, ap, _∙_}
 use mathlib.Core.Bool.{true, false}
 use mathlib.Core.List.{List, []}
-use Prim.Native.Nat.{ℕ, _+_, _-_, _*_, _/_, _≤_, _<_}
+use Prim.Native.Nat.{ℕ, _+_, _-_, _*_, _≤_, _<_}
 use native.Mathlib.Omega.{arith}
 use Rattle.node.specs.Node.{byteLimit}
 use Rattle.blocks.specs.declared.BlockIter.{BlockIter}
@@ -16,7 +16,7 @@ use Rattle.outcome.specs.Told.{Told, toldOf}
 use Rattle.lookup.specs.declared.Committed.{Committed}
 use Rattle.lookup.specs.declared.Committed.the-variants.{Frame, ZeroFrame}
 use Rattle.lookup.specs.Work.{Work, workOf}
-use Rattle.lookup.specs.Commit.{Committing, committingOf, commitLeaf}
+use Rattle.lookup.specs.Commit.{committingOf, commitLeaf}
 use Rattle.outcome.specs.declared.answer.Refusal.{Refusal}
 use Rattle.outcome.specs.declared.answer.Against.{Against}
 use Rattle.outcome.specs.declared.answer.Against.the-variants.{Why, Nothing as Fine}

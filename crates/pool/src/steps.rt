@@ -10,7 +10,6 @@ ghost use Prim.Native.Nat.{ℕ, _*_};
 ghost use lib.ListN.{length, replicate};
 ghost use Rattle.outcome.specs.Outcome.{outcome};
 ghost use Rattle.tables.specs.Pool.{poolOf};
-ghost use Rattle.tables.specs.Tables.{nodeOf};
 ghost use Rattle.pool.specs.Calls.{newLeaf, lenOf};
 
 pub fn clear(s: &mut [u32])

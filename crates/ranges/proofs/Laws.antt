@@ -2,11 +2,10 @@
 use mathlib.Core.Path.{_≡_, refl, sym, _∙_}
 use mathlib.Core.Bool.{Bool, true, false, not}
 use mathlib.Core.List.{List, []}
-use Prim.Native.Nat.{ℕ, zero, suc, _+_, _-_, _*_, _/_, _%_, _≤_, _<_}
+use Prim.Native.Nat.{ℕ, zero, suc, _+_, _-_, _/_, _%_, _≤_, _<_}
 use native.Mathlib.Omega.{arith}
 use lib.Dec.{eqb, leb}
 use lib.ListN.{length}
-use borrow.Author.Tests.{le-leb, lt-leb, leb-true, leb-false}
 use Rattle.logic.specs.Pick.{pick}
 use Rattle.node.specs.declared.Node.{Node}
 use Rattle.node.specs.Node.{byteLimit, cachedOf, containsOf}
@@ -18,7 +17,7 @@ use Rattle.frames.specs.Frames.{freeCount}
 use Rattle.outcome.specs.Told.{toldOf}
 use Rattle.lookup.specs.Work.{Work, workOf}
 use Rattle.outcome.specs.declared.answer.Answer.{Answer}
-use Rattle.outcome.specs.declared.answer.Answer.the-variants.{Done, Refused}
+use Rattle.outcome.specs.declared.answer.Answer.the-variants.{Refused}
 use Rattle.outcome.specs.declared.answer.Refusal.{Refusal}
 use Rattle.outcome.specs.declared.answer.Refusal.the-variants.{BadState, OutOfRange, NoRoom}
 use Rattle.outcome.specs.declared.answer.Against.{Against}
@@ -27,7 +26,7 @@ use Rattle.outcome.specs.Room.{roomOf}
 use Rattle.outcome.specs.declared.reply.Reply.{Reply}
 use Rattle.outcome.specs.Outcome.{outcomeOf, outcome, replyOf}
 use Rattle.page.specs.Each.{Part, partOf, onward, each}
-use Rattle.page.specs.Pages.{Read, readOf, readPage, writePage, commitOne}
+use Rattle.page.specs.Pages.{Read, readOf}
 use Rattle.ranges.specs.Ranges.{answerBy, rangedBy, againstWriting, writeRange, written, writeThrough, writeAt, againstCommitting, commitRange, committed, commitThrough, commitAt, againstReading, readRange, filled, readAt, read}
 use Rattle.outcome.proofs.Laws.{Quiet, tested}
 use Rattle.pool.proofs.Laws.{on-object}

@@ -30,10 +30,12 @@ fn against_writing(
     ensures fits { λ r. ⌜ (r ≡ Fine → offset + len < byteLimit) ⌝ }
 {
     let n = tables::node_at(nodes, node);
-    if !n.is_cached() {
+    let cached = n.is_cached();
+    let inside = n.contains(offset, len);
+    if !cached {
         return Against::Why(Refusal::BadState);
     }
-    if !n.contains(offset, len) {
+    if !inside {
         return Against::Why(Refusal::OutOfRange);
     }
     let range = BlockIter {

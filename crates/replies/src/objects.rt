@@ -106,16 +106,7 @@ pub fn unmap(
     head: &[u32],
     memory: &[u8],
 ) -> Did {
-    Did::Said(mapped::remove_mapping(
-        nodes,
-        pages,
-        used,
-        mappings,
-        head,
-        memory,
-        line.a,
-        line.b,
-    ))
+    Did::Said(mapped::remove_mapping(nodes, pages, used, mappings, head, memory, line.a, line.b))
 }
 
 // f O offset len

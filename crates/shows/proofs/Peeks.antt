@@ -28,7 +28,7 @@ use Rattle.ranges.specs.Ranges.{filled, againstReading, readRange, readAt, read
 use Rattle.peek.specs.declared.Shown.{Shown}
 use Rattle.peek.specs.declared.Shown.the-variants.{Nowhere}
 use Rattle.peek.specs.Peek.{zeroPageOf, shownBy, placeAt, place, shownAt, peek}
-use Rattle.shows.specs.Shows.{Peeked, Refuses}
+use Rattle.shows.specs.Shows.{Peeked, Refuses, bytesRead, peekByRead}
 use Rattle.shows.specs.Shows.Peeked.{nothing, bytes}
 use Rattle.shows.proofs.Whole.{page-read}
 
@@ -109,3 +109,15 @@ module _ (L : ℕ) (p : Pool) (zero : List ℕ) (object page : ℕ) (buf : List 
       by : (g : Bool) → zeroPageOf L zero ≡ g → (zeroPageOf L zero ≡ false) ⊎ Refuses given
       by true g = inr (called (peek-called g))
       by false g = inl g
+
+  -- document 01's sentence, for any buffer of a page's length
+  pub peek-by-read : shown ≡ peekByRead L p zero object page buf
+  peek-by-read = by (zeroPageOf L zero) refl
+    where
+      called : Peeked L shown given → shown ≡ bytesRead (given .answer) (given .buf)
+      called (nothing why e n) = rw e n
+      called (bytes e b l) = rw e b
+
+      by : (g : Bool) → zeroPageOf L zero ≡ g → shown ≡ pick g (bytesRead (given .answer) (given .buf)) []
+      by true g = called (peek-called g)
+      by false g = peek-zero L p zero object page g

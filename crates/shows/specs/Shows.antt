@@ -2,8 +2,10 @@
 -- of bytes: it leaves no pool, so nothing is moved by it.
 use mathlib.Core.Path.{_≡_}
 use mathlib.Core.List.{List, []}
-use Prim.Native.Nat.{ℕ, _<_}
+use Prim.Native.Nat.{ℕ, _*_, _<_}
 use lib.ListN.{length, getD}
+use Rattle.logic.specs.Pick.{pick}
+use Rattle.tables.specs.Pool.{Pool}
 use Rattle.lookup.specs.declared.End.{End}
 use Rattle.lookup.specs.declared.End.the-variants.{Has, Bare, Tired}
 use Rattle.lookup.specs.declared.Committed.{Committed}
@@ -13,7 +15,9 @@ use Rattle.lookup.specs.Commit.{Committing}
 use Rattle.outcome.specs.declared.answer.Answer.the-variants.{Done, Refused}
 use Rattle.outcome.specs.declared.answer.Refusal.{Refusal}
 use Rattle.outcome.specs.declared.answer.Answer.{Answer}
-use Rattle.outcome.specs.Outcome.{Outcome, refused}
+use Rattle.outcome.specs.Outcome.{Outcome}
+use Rattle.ranges.specs.Ranges.{read}
+use Rattle.peek.specs.Peek.{zeroPageOf}
 
 -- lookup answers the frame found, one of F, whether it would move or not, or zeros; the walk never ends without
 abbrev pub ReadAs : ℕ → End → Committed → Type 0
@@ -37,6 +41,18 @@ pub data Peeked (L : ℕ) (shown : List ℕ) (r : Outcome Answer) : Type 0 where
 pub record Refuses (r : Outcome Answer) : Type 0 where
   pub why : Refusal
   pub answer : r .answer ≡ Refused why
+
+-- the bytes that an accepted read gives
+abbrev pub bytesRead : Answer → List ℕ → List ℕ
+bytesRead (Done v) buf = buf
+bytesRead (Refused why) buf = []
+
+-- peek by document 01's sentence: the buffer of a read of that page where the read is accepted, else nothing; nothing too where the zero page
+-- isn't L zeros
+abbrev pub peekByRead : ℕ → Pool → List ℕ → ℕ → ℕ → List ℕ → List ℕ
+peekByRead L p zero object page buf =
+    let r = read L p object (page * L) buf in
+    pick (zeroPageOf L zero) (bytesRead (r .answer) (r .buf)) []
 
 -- the L bytes a 0, a 1, ..
 pub record BytesOf (L : ℕ) (a : ℕ → ℕ) (shown : List ℕ) : Type 0 where
