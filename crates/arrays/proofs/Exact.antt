@@ -36,6 +36,10 @@ module _ {p : Pool} {n first pages value : ℕ} {doneBy : ℕ → ℕ} {r : Rang
   pub refused-short : Granted p n first pages value r ⊎ Short p n first pages doneBy r → r .said .answer ≡ Refused NoMemory → freeCount (p .used) < needs (p .nodes) (p .pages) n first pages
   refused-short e h = ⊎-elim (λ g. absurd (done-not (g .answer) h)) (λ s. s .short) e
 
+  -- and then all frames are taken
+  pub refused-none : Granted p n first pages value r ⊎ Short p n first pages doneBy r → r .said .answer ≡ Refused NoMemory → freeCount (r .said .pool .used) ≡ 0
+  refused-none e h = ⊎-elim (λ g. absurd (done-not (g .answer) h)) (λ s. s .none) e
+
   pub short-refused : Granted p n first pages value r ⊎ Short p n first pages doneBy r → freeCount (p .used) < needs (p .nodes) (p .pages) n first pages → r .said .answer ≡ Refused NoMemory
   short-refused e h = ⊎-elim (λ g. let q = g .enough in absurd (omega arith)) (λ s. s .answer) e
 
