@@ -11,6 +11,7 @@ pub mod Read
 pub mod Called
 pub mod Calls
 pub mod Page
+pub mod Tested
 pub mod Exact
 pub mod Filled
 pub mod Base

@@ -46,7 +46,7 @@ module _ (L : ℕ) (A : ℕ → ℕ → ℕ → ℕ) (p : Pool) (P : Private L A
   ends-by (New f) w a = absurd a
   ends-by Stopped w a = absurd a
 
-  page-through : Leaf (p .nodes) n → page < nodeOf (p .nodes) n .size
+  pub page-through : Leaf (p .nodes) n → page < nodeOf (p .nodes) n .size
       → Page L A p n page write (committed p (look L 64 (p .nodes) (p .mappings) (workOf (p .pages) (p .used) (p .memory) (toldOf list 0)) n (page % 4294967296) write n))
   page-through leaf low =
       let s = P .sound .tree .sizes n in

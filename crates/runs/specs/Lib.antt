@@ -1,4 +1,5 @@
 pub mod Runs
 pub mod Arrays
+pub mod Isolated
 pub mod Memory
 pub mod Own
