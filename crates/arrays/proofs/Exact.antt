@@ -21,7 +21,7 @@ use Rattle.arrays.specs.Outcomes.{Reads, Granted, Short, Commits, Writes
 use Rattle.arrays.specs.Calls.{ByTests, Called, Page}
 use Rattle.arrays.specs.Calls.Called.{refused, accepted}
 
-done-not : {a : Answer} {v : ℕ} {r : Refusal} → a ≡ Done v → a ≡ Refused r → ⊥
+pub done-not : {a : Answer} {v : ℕ} {r : Refusal} → a ≡ Done v → a ≡ Refused r → ⊥
 done-not e f = let z : _≡_ {A = ℕ} 0 1 = cc in omega arith
 
 stopped-not : {a : Answer} → a ≡ Refused NoMemory → a ≡ Refused Stopped → ⊥

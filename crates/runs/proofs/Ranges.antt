@@ -10,7 +10,8 @@ use Rattle.tables.specs.Pool.{Pool}
 use Rattle.tables.specs.Tables.{nodeOf}
 use Rattle.frames.specs.Frames.{freeCount}
 use Rattle.sound.specs.Facts.{Leaf}
-use Rattle.pool.specs.declared.answer.Answer.the-variants.{Refused}
+use Rattle.pool.specs.declared.answer.Answer.{Answer}
+use Rattle.pool.specs.declared.answer.Answer.the-variants.{Done, Refused}
 use Rattle.pool.specs.declared.answer.Refusal.{Refusal}
 use Rattle.pool.specs.declared.answer.Refusal.the-variants.{NoMemory}
 use Rattle.pool.specs.declared.answer.Against.{Against}
@@ -27,7 +28,7 @@ use Rattle.arrays.proofs.Commit.{commit-through}
 use Rattle.arrays.proofs.Tested.{Accepted, page-tested, page-does}
 use Rattle.arrays.proofs.Called.{Tests, Inside, writing-tests, committing-tests}
 use Rattle.arrays.proofs.Calls.{read-called, write-called, commit-called}
-use Rattle.arrays.proofs.Exact.{write-ends, short-refused, page-short}
+use Rattle.arrays.proofs.Exact.{done-not, write-ends, short-refused, page-short}
 use Rattle.runs.specs.Runs.Aside.{Commit, CommitPage}
 use Rattle.runs.specs.Runs.Command.{Write}
 use Rattle.runs.specs.Memory.{NeedsMore, TooFewFor, TooFew}
@@ -117,6 +118,15 @@ module _ (L : ℕ) (B : ℕ → ℕ → ℕ → ℕ) (p : Pool) (P : Private L B
         let few = ⊎-elim (λ g. let q = g .done in omega arith) (λ x. let q = x .0 in omega arith) (w .ends) in
         let m : writeThrough L p list n offset bytes .done ≤ length bytes = few in
         inr (record { leaf = leaf; among = m; inside = omega arith }))
+
+    -- accepted, all are
+    pub write-all : (v : ℕ) → write L p list n offset bytes .said .answer ≡ Done v → (v ≡ length bytes) × (write L p list n offset bytes .done ≡ length bytes)
+    write-all v =
+        write-by (λ r. r .said .answer ≡ Done v → (v ≡ length bytes) × (r .done ≡ length bytes)) (λ r t e. absurd (done-not e refl))
+        (λ leaf e w h. ⊎-elim (λ g. (value h (g .answer), g .done)) (λ x. absurd (done-not h (x .1 .answer))) (w .ends))
+      where
+        value : {a : Answer} → a ≡ Done v → a ≡ Done (length bytes) → v ≡ length bytes
+        value h g = cc
 
   -- commit
 

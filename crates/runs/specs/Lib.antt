@@ -3,3 +3,4 @@ pub mod Arrays
 pub mod Isolated
 pub mod Memory
 pub mod Own
+pub mod Theorems
