@@ -1,2 +1,3 @@
 pub mod Quick
 pub mod Cases
+pub mod History

@@ -9,10 +9,8 @@ use Rattle.frames.specs.Frames.{freeCount}
 use Rattle.pool.specs.declared.answer.Answer.{Answer}
 use Rattle.pool.specs.declared.answer.Answer.the-variants.{Done, Refused}
 use Rattle.pool.specs.Answers.{codeOf, valueOf}
-use Rattle.pool.specs.Calls as C
-use Rattle.commit.specs.Noted.{Said}
-use Rattle.child.specs.Child.{createChild}
-use Rattle.ranges.specs.Ranges.{Ranging, Filled, read, write}
+use Rattle.runs.specs.Runs.{Command, Turn, turnBy}
+use Rattle.runs.specs.Runs.Command.{New as Newly, Child as Cloned, Read as Reads, Write as Writes}
 
 pub data Line : Type 0 where
   New : (pages : ℕ) → Line
@@ -43,33 +41,34 @@ pub record Step : Type 0 where
 abbrev pub stepOf : Reply → Pool → Step
 stepOf r p = record { reply = r; pool = p }
 
-abbrev pub byCall : C.Call → Step
-byCall c = stepOf (says (codeOf (c .answer)) (valueOf (c .answer))) (c .pool)
+-- a call gives its answer's value; a write the bytes done, refused or not; a read the bytes, if it is accepted
+abbrev pub byValue : Turn → Step
+byValue t = stepOf (says (codeOf (t .result .answer)) (valueOf (t .result .answer))) (t .pool)
 
-abbrev pub bySaid : Said → Step
-bySaid s = stepOf (says (codeOf (s .answer)) (valueOf (s .answer))) (s .pool)
-
--- a write gives the bytes done, refused or not
-abbrev pub byRanging : Ranging → Step
-byRanging r = stepOf (says (codeOf (r .said .answer)) (r .done)) (r .said .pool)
+abbrev pub byDone : Turn → Step
+byDone t = stepOf (says (codeOf (t .result .answer)) (t .result .done)) (t .pool)
 
 abbrev pub filling : Answer → List ℕ → Reply
 filling (Done v) buf = reads buf
 filling (Refused r) buf = says (codeOf (Refused r)) 0
 
-abbrev pub byFilled : Filled → Step
-byFilled f = stepOf (filling (f .answer) (f .buf)) (f .pool)
+abbrev pub byBytes : Turn → Step
+byBytes t = stepOf (filling (t .result .answer) (t .result .buf)) (t .pool)
 
 -- what a read's buffer holds before
 abbrev pub blot : ℕ → List ℕ
 blot len = replicate len 255
 
-unfoldable pub step : ℕ → Pool → Line → Step
-step L p (New pages) = byCall (C.new L p pages)
-step L p (Child object first count) = bySaid (createChild L p [] object (first * L) (count * L))
-step L p (Write object offset byte len) = byRanging (write L p [] object offset (replicate len byte))
-step L p (Read object offset len) = byFilled (read L p object offset (blot len))
-step L p Free = stepOf (says 0 (freeCount (p .used))) p
+-- a line, where `turn` says what calls give
+unfoldable pub stepBy : ℕ → (Pool → Command → Turn) → Pool → Line → Step
+stepBy L turn p (New pages) = byValue (turn p (Newly pages))
+stepBy L turn p (Child object first count) = byValue (turn p (Cloned [] object (first * L) (count * L)))
+stepBy L turn p (Write object offset byte len) = byDone (turn p (Writes [] object offset (replicate len byte)))
+stepBy L turn p (Read object offset len) = byBytes (turn p (Reads object offset (blot len)))
+stepBy L turn p Free = stepOf (says 0 (freeCount (p .used))) p
+
+abbrev pub step : ℕ → Pool → Line → Step
+step L = stepBy L (turnBy L)
 
 -- a line with its answer beside it
 infix 70 _⇒_
