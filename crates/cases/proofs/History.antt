@@ -1,8 +1,7 @@
--- A history computed by the rules, and the arrays, the own calls and the reads that the definitions of runs make of it. Assumes nothing.
+-- A history computed by the rules, and the arrays, the deeds and the reads that the definitions of runs make of it. Assumes nothing.
 use mathlib.Core.Path.{_≡_, refl, ap, _∙_}
 use mathlib.Core.Bool.{true, false}
 use mathlib.Core.List.{List, [], _∷_}
-use Prim.Native.Nat.{ℕ}
 use lib.ListN.{replicate}
 use Rattle.tables.specs.Pool.{Pool}
 use Rattle.sound.specs.Sound.{lengthsOk, sound}
@@ -10,12 +9,12 @@ use Rattle.pool.specs.Calls.{start, freshPool}
 use Rattle.pool.specs.declared.answer.Answer.the-variants.{Done, Refused}
 use Rattle.pool.specs.declared.answer.Refusal.the-variants.{OutOfRange, NoMemory, NoObject, NoRoom}
 use Rattle.births.proofs.Calls.{start-done}
-use Rattle.runs.specs.Runs.{Command, resultOf, Event, eventOf, history, historyOf}
+use Rattle.runs.specs.Runs.{Command, resultOf, Event, eventOf, historyOf}
 use Rattle.runs.specs.Runs.Aside.{Len, Append}
 use Rattle.runs.specs.Runs.Command.{New, Child, Read, Write, Also}
 use Rattle.runs.specs.Arrays.{nobody, arraysAfter, arraysOf, lives}
-use Rattle.runs.specs.Own.{own, readsOf}
-use Rattle.runs.specs.Own.Deed.{Asked, Put}
+use Rattle.runs.specs.Own.{deeds, readsOf}
+use Rattle.runs.specs.Own.Deed.{Asked, Overwrites}
 use Rattle.cases.proofs.Quick.{quick, quickAside, quickly-goes, quick-history}
 use Rattle.cases.proofs.Cases.{lent}
 
@@ -67,7 +66,8 @@ unfolding two
 is-told = quick-history 4 two two-sound run ∙ computed
 
 -- the arrays, each with its length: object 0 has what its refused write had done, and object 1 the page copied; 2 is nobody
-arrays-told : (arraysAfter 4 nobody told 0 ≡ 0 ∷ 0 ∷ 7 ∷ 8 ∷ 2 ∷ 3 ∷ 0 ∷ 0 ∷ []) × (arraysAfter 4 nobody told 1 ≡ 2 ∷ 3 ∷ 0 ∷ 0 ∷ []) × (arraysAfter 4 nobody told 2 ≡ [])
+arrays-told : (arraysAfter 4 nobody told 0 ≡ 0 ∷ 0 ∷ 7 ∷ 8 ∷ 2 ∷ 3 ∷ 0 ∷ 0 ∷ [])
+    × (arraysAfter 4 nobody told 1 ≡ 2 ∷ 3 ∷ 0 ∷ 0 ∷ []) × (arraysAfter 4 nobody told 2 ≡ [])
 unfolding told arraysAfter
 arrays-told = (refl, refl, refl)
 
@@ -75,13 +75,14 @@ pub arrays-are : arraysOf 4 (lent 2) run 1 ≡ 2 ∷ 3 ∷ 0 ∷ 0 ∷ []
 arrays-are = ap (λ (es : List Event). arraysAfter 4 nobody es 1) is-told ∙ arrays-told .1
 
 -- an object's own are its reads and writes, accepted or not
-own-told : own 1 told ≡ Asked 0 3 ∷ Asked 2 3 ∷ []
-unfolding told own
-own-told = refl
+deeds-told : deeds 1 told ≡ Asked 0 3 ∷ Asked 2 3 ∷ []
+unfolding told deeds
+deeds-told = refl
 
-writes-told : own 0 told
-    ≡ Put 3 (1 ∷ 2 ∷ 3 ∷ []) (Refused NoRoom) 0 ∷ Put 3 (1 ∷ 2 ∷ 3 ∷ []) (Done 3) 3 ∷ Put 2 (7 ∷ 8 ∷ 9 ∷ []) (Refused NoMemory) 2 ∷ []
-unfolding told own
+writes-told : deeds 0 told
+    ≡ Overwrites 3 (1 ∷ 2 ∷ 3 ∷ []) (Refused NoRoom) 0 ∷ Overwrites 3 (1 ∷ 2 ∷ 3 ∷ []) (Done 3) 3
+    ∷ Overwrites 2 (7 ∷ 8 ∷ 9 ∷ []) (Refused NoMemory) 2 ∷ []
+unfolding told deeds
 writes-told = refl
 
 reads-told : readsOf 1 told ≡ resultOf (Done 0) 0 (2 ∷ 3 ∷ 0 ∷ []) ∷ resultOf (Refused OutOfRange) 0 [] ∷ []

@@ -13,7 +13,7 @@ use Rattle.blocks.specs.Blocks.{pagesOf, blockEnd, nextBy, nextOf, countOf}
 use Rattle.tables.specs.Pool.{Pool}
 use Rattle.tables.specs.Tables.{wordOf, withWord, recordOf, nodeOf, withFive, withNode, entryOf, slotAt, withEntry, withState, withoutState, rowMoved, mappingOf, numberOf, isFree, freeNodeIn, freeNodeFrom}
 use Rattle.frames.specs.Frames.{idleOf, oneIdle, freeCount, freeFrameIn, pastedAt, blankAt, clearedAt, copiedAt}
-use Rattle.notices.specs.Notices.{putNotice, overlapOf, tellPlace, tellObject, childOf, rangeChange, toldOf}
+use Rattle.notices.specs.Notices.{putNotice, overlapOf, tellPlace, tellObject, childOf, rangeChange}
 use Rattle.lookup.specs.Lookup.{asksOf, cleared, freshBy, fresh, partBy, part, otherTold, shareOr, hiddenStep, leafTold, settleBy, settle, handedBy, enter, look}
 use Rattle.sound.specs.Sound.{sound}
 use Rattle.pool.specs.declared.answer.Refusal.{Refusal}
@@ -27,41 +27,41 @@ use Rattle.ranges.specs.Ranges.{insideOf, cachedOf, rangedBy, againstWriting, w
 use Rattle.mappings.specs.Mappings.{isFreeAt, freePlace, notAt, unused, freeNumber, withMapping, append}
 use Rattle.mappings.specs.Mappings as M
 use Rattle.mapped.specs.Mapped.{shownOf, appendBy, appendAt}
-use Rattle.runs.specs.Runs.{Aside, Command, Turn, turnOf, asideBy, turnBy, Event, eventOf, history}
+use Rattle.runs.specs.Runs.{Aside, Command, Effect, effectOf, asideEffect, effect, Event, eventOf, history}
 use Rattle.runs.specs.Runs.Aside.{Commit, CommitPage, Len, Peek, Forecast, Append, Remove}
 use Rattle.runs.specs.Runs.Command.{New, Child, Read, Write, Also}
 use Rattle.runs.specs.Theorems.AnyCall.{Of}
 use Rattle.runs.proofs.Theorems.{keeps-sound}
-use Rattle.cases.specs.Script.{Line, Reply, Step, blot, stepBy, step, Row, repliesBy, repliesIn, Table}
+use Rattle.cases.specs.Script.{Line, Reply, blot, stepBy, step, Row, repliesBy, repliesIn, Table}
 use Rattle.cases.specs.Script.Line.{New as Newly, Child as Cloned, Write as Writes, Read as Reads, Free}
 
 -- a call as its rule has it after the sound test; those that no case makes as they are
 abbrev atObject : {A : Type 0} → Pool → ℕ → (Refusal → A) → (ℕ → A) → A
 atObject p object refuse does = atNode refuse does (findObject (p .nodes) object)
 
-unfoldable pub quickAside : ℕ → Pool → Aside → Turn
+unfoldable pub quickAside : ℕ → Pool → Aside → Effect
 unfolding atNode findObject appendAt appendBy shownOf append M.appendBy freePlace isFreeAt freeNumber unused notAt withMapping lenOf nodeOf recordOf wordOf mappingOf numberOf firstFrom allBelow
-quickAside L p (Len n) = let r = atObject p n (λ r. refused r p) (λ m. callOf (lenOf L (p .nodes) m) p) in turnOf (r .answer) 0 [] (r .pool)
-quickAside L p (Append n first pages) = let r = atObject p n (λ r. refused r p) (λ m. appendAt p m first pages) in turnOf (r .answer) 0 [] (r .pool)
-quickAside L p (Commit list n offset bytes) = asideBy L p (Commit list n offset bytes)
-quickAside L p (CommitPage list n page writing) = asideBy L p (CommitPage list n page writing)
-quickAside L p (Peek zero n page) = asideBy L p (Peek zero n page)
-quickAside L p (Forecast n offset bytes) = asideBy L p (Forecast n offset bytes)
-quickAside L p (Remove n mapping) = asideBy L p (Remove n mapping)
+quickAside L p (Len n) = let r = atObject p n (λ r. refused r p) (λ m. callOf (lenOf L (p .nodes) m) p) in effectOf (r .answer) 0 [] (r .pool)
+quickAside L p (Append n first pages) = let r = atObject p n (λ r. refused r p) (λ m. appendAt p m first pages) in effectOf (r .answer) 0 [] (r .pool)
+quickAside L p (Commit list n offset bytes) = asideEffect L p (Commit list n offset bytes)
+quickAside L p (CommitPage list n page writing) = asideEffect L p (CommitPage list n page writing)
+quickAside L p (Peek zero n page) = asideEffect L p (Peek zero n page)
+quickAside L p (Forecast n offset bytes) = asideEffect L p (Forecast n offset bytes)
+quickAside L p (Remove n mapping) = asideEffect L p (Remove n mapping)
 
-unfoldable pub quick : ℕ → Pool → Command → Turn
+unfoldable pub quick : ℕ → Pool → Command → Effect
 unfolding leafAt newLeaf atNode findObject childAt againstChild numbered withChild withBoth born bornNodes relinked roomOf liveCount liveOne writeAt againstWriting writeThrough written writeRange writePage writeBy wrotePage storedBy rangedBy readAt againstReading readRange readPage readBy lookRead readThrough fetchedBy filled insideOf cachedOf each onward pagesOf blockEnd nextBy nextOf countOf look enter handedBy settle settleBy leafTold hiddenStep shareOr otherTold part partBy fresh freshBy cleared asksOf rangeChange childOf tellObject tellPlace overlapOf putNotice freeCount oneIdle idleOf freeFrameIn pastedAt blankAt clearedAt copiedAt nodeOf recordOf wordOf withNode withFive withWord entryOf slotAt withEntry withState withoutState rowMoved mappingOf numberOf isFree freeNodeIn freeNodeFrom tagOf stateOf slotOf entryWord outOf sideOf sumBelow firstFrom copied zeroed
-quick L p (New pages) = let r = pick (leb pages 64) (newLeaf p pages) (refused InvalidArgs p) in turnOf (r .answer) 0 [] (r .pool)
+quick L p (New pages) = let r = pick (leb pages 64) (newLeaf p pages) (refused InvalidArgs p) in effectOf (r .answer) 0 [] (r .pool)
 quick L p (Child list n offset bytes) =
-    let r = atObject p n (refusedOf p list) (λ m. childAt L p list m offset bytes) in turnOf (r .answer) 0 [] (r .pool)
+    let r = atObject p n (refusedOf p list) (λ m. childAt L p list m offset bytes) in effectOf (r .answer) 0 [] (r .pool)
 quick L p (Write list n offset bytes) =
-    let r = atObject p n (refusedRange p list) (λ m. writeAt L p list m offset bytes) in turnOf (r .said .answer) (r .done) [] (r .said .pool)
-quick L p (Read n offset buf) = let r = atObject p n (unfilled p buf) (λ m. readAt L p m offset buf) in turnOf (r .answer) 0 (r .buf) (r .pool)
+    let r = atObject p n (refusedRange p list) (λ m. writeAt L p list m offset bytes) in effectOf (r .said .answer) (r .done) [] (r .said .pool)
+quick L p (Read n offset buf) = let r = atObject p n (unfilled p buf) (λ m. readAt L p m offset buf) in effectOf (r .answer) 0 (r .buf) (r .pool)
 quick L p (Also c) = quickAside L p c
 
 module _ (L : ℕ) where
-  aside-is : (p : Pool) → sound L p ≡ true → (c : Aside) → asideBy L p c ≡ quickAside L p c
-  unfolding asideBy quickAside onNode
+  aside-is : (p : Pool) → sound L p ≡ true → (c : Aside) → asideEffect L p c ≡ quickAside L p c
+  unfolding asideEffect quickAside onNode
   aside-is p s (Len n) = rw s
   aside-is p s (Append n first pages) = rw s
   aside-is p s (Commit list n offset bytes) = refl
@@ -70,8 +70,8 @@ module _ (L : ℕ) where
   aside-is p s (Forecast n offset bytes) = refl
   aside-is p s (Remove n mapping) = refl
 
-  quick-is : (p : Pool) → sound L p ≡ true → (c : Command) → turnBy L p c ≡ quick L p c
-  unfolding turnBy quick new onNode
+  quick-is : (p : Pool) → sound L p ≡ true → (c : Command) → effect L p c ≡ quick L p c
+  unfolding effect quick new onNode
   quick-is p s (New pages) = rw s
   quick-is p s (Child list n offset bytes) = rw s
   quick-is p s (Write list n offset bytes) = rw s
@@ -89,7 +89,7 @@ module _ (L : ℕ) where
   quick-history p s [] = refl
   quick-history p s (c ∷ cs) =
       let e = quick-is p s c in
-      rw (← e) (ap (λ (es : List Event). eventOf c (turnBy L p c .result) ∷ es) (quick-history (turnBy L p c .pool) (keeps-sound L p s (Of c)) cs))
+      rw (← e) (ap (λ (es : List Event). eventOf c (effect L p c .result) ∷ es) (quick-history (effect L p c .pool) (keeps-sound L p s (Of c)) cs))
 
   -- lines
 

@@ -9,7 +9,7 @@ use Rattle.frames.specs.Frames.{freeCount}
 use Rattle.pool.specs.declared.answer.Answer.{Answer}
 use Rattle.pool.specs.declared.answer.Answer.the-variants.{Done, Refused}
 use Rattle.pool.specs.Answers.{codeOf, valueOf}
-use Rattle.runs.specs.Runs.{Command, Turn, turnBy}
+use Rattle.runs.specs.Runs.{Command, Effect, effect}
 use Rattle.runs.specs.Runs.Command.{New as Newly, Child as Cloned, Read as Reads, Write as Writes}
 
 pub data Line : Type 0 where
@@ -42,33 +42,33 @@ abbrev pub stepOf : Reply → Pool → Step
 stepOf r p = record { reply = r; pool = p }
 
 -- a call gives its answer's value; a write the bytes done, refused or not; a read the bytes, if it is accepted
-abbrev pub byValue : Turn → Step
+abbrev pub byValue : Effect → Step
 byValue t = stepOf (says (codeOf (t .result .answer)) (valueOf (t .result .answer))) (t .pool)
 
-abbrev pub byDone : Turn → Step
+abbrev pub byDone : Effect → Step
 byDone t = stepOf (says (codeOf (t .result .answer)) (t .result .done)) (t .pool)
 
 abbrev pub filling : Answer → List ℕ → Reply
 filling (Done v) buf = reads buf
 filling (Refused r) buf = says (codeOf (Refused r)) 0
 
-abbrev pub byBytes : Turn → Step
+abbrev pub byBytes : Effect → Step
 byBytes t = stepOf (filling (t .result .answer) (t .result .buf)) (t .pool)
 
 -- what a read's buffer holds before
 abbrev pub blot : ℕ → List ℕ
 blot len = replicate len 255
 
--- a line, where `turn` says what calls give
-unfoldable pub stepBy : ℕ → (Pool → Command → Turn) → Pool → Line → Step
-stepBy L turn p (New pages) = byValue (turn p (Newly pages))
-stepBy L turn p (Child object first count) = byValue (turn p (Cloned [] object (first * L) (count * L)))
-stepBy L turn p (Write object offset byte len) = byDone (turn p (Writes [] object offset (replicate len byte)))
-stepBy L turn p (Read object offset len) = byBytes (turn p (Reads object offset (blot len)))
-stepBy L turn p Free = stepOf (says 0 (freeCount (p .used))) p
+-- a line, where `does` says what calls give
+unfoldable pub stepBy : ℕ → (Pool → Command → Effect) → Pool → Line → Step
+stepBy L does p (New pages) = byValue (does p (Newly pages))
+stepBy L does p (Child object first count) = byValue (does p (Cloned [] object (first * L) (count * L)))
+stepBy L does p (Write object offset byte len) = byDone (does p (Writes [] object offset (replicate len byte)))
+stepBy L does p (Read object offset len) = byBytes (does p (Reads object offset (blot len)))
+stepBy L does p Free = stepOf (says 0 (freeCount (p .used))) p
 
 abbrev pub step : ℕ → Pool → Line → Step
-step L = stepBy L (turnBy L)
+step L = stepBy L (effect L)
 
 -- a line with its answer beside it
 infix 70 _⇒_

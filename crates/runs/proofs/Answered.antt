@@ -108,10 +108,12 @@ module _ (short : Type 0) (L : ℕ) (p : Pool) (list : List ℕ) (n offset len :
   tests-answer : Answers short (childAt L p list n offset len .answer)
   unfolding childAt againstChild
   tests-answer =
-      by (alignedOf L offset && alignedOf L len && leb len (64 * L)) (eqb (nodeOf (p .nodes) n .«cache_policy») 0 && eqb (nodeOf (p .nodes) n .«pin_count») 0)
+      by (alignedOf L offset && alignedOf L len && leb len (64 * L))
+      (eqb (nodeOf (p .nodes) n .«cache_policy») 0 && eqb (nodeOf (p .nodes) n .«pin_count») 0)
       (leb (offset + len) (nodeOf (p .nodes) n .size * L))
     where
-      by : (a b c : Bool) → Answers short (unless (pick a (pick b (pick c Fine (Why OutOfRange)) (Why BadState)) (Why InvalidArgs)) (refusedOf p list) (numbered p list n (offset / L) (len / L)) .answer)
+      by : (a b c : Bool)
+          → Answers short (unless (pick a (pick b (pick c Fine (Why OutOfRange)) (Why BadState)) (Why InvalidArgs)) (refusedOf p list) (numbered p list n (offset / L) (len / L)) .answer)
       by true true true = numbered-answers short p list n (offset / L) (len / L)
       by true true false = tt
       by true false c = tt

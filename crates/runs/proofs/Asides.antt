@@ -1,8 +1,6 @@
 -- The calls that make no object and have no buffer: they leave the nodes and every array, and how they are answered. Assumes nothing.
-use mathlib.Core.Path.{_≡_, refl, ap}
+use mathlib.Core.Path.{_≡_, refl}
 use mathlib.Core.Bool.{Bool, true, false}
-use mathlib.Core.List.{List}
-use mathlib.Core.Logic.{_⊎_, ⊎-elim}
 use Prim.Native.Nat.{ℕ, _+_, _*_}
 use lib.Dec.{leb, ltb}
 use Rattle.logic.specs.Pick.{pick}
@@ -10,8 +8,7 @@ use Rattle.logic.specs.declared.Found.{Found}
 use Rattle.logic.specs.declared.Found.the-variants.{At, Nothing}
 use Rattle.tables.specs.Pool.{Pool}
 use Rattle.tables.specs.Tables.{nodeOf}
-use Rattle.frames.specs.Frames.{freeCount}
-use Rattle.sound.specs.Facts.{Leaf, Sound}
+use Rattle.sound.specs.Facts.{Sound}
 use Rattle.pool.specs.declared.answer.Answer.{Answer}
 use Rattle.pool.specs.declared.answer.Answer.the-variants.{Done, Refused}
 use Rattle.pool.specs.declared.answer.Refusal.the-variants.{OutOfRange, NoMemory}
@@ -25,7 +22,7 @@ use Rattle.forecast.specs.Forecast.{yesOf, forecastAnswer, forecast}
 use Rattle.blocks.specs.Blocks.{iterOf}
 use Rattle.isolation.specs.Private.{Private}
 use Rattle.births.proofs.Arrays.{len-same, forecast-same, append-arrays, remove-arrays}
-use Rattle.runs.specs.Runs.{Aside, asideBy}
+use Rattle.runs.specs.Runs.{Aside, asideEffect}
 use Rattle.runs.specs.Runs.Aside.{Commit, CommitPage, Len, Peek, Forecast, Append, Remove}
 use Rattle.runs.specs.Memory.{TooFewFor}
 use Rattle.runs.proofs.Objects.{on-leaf}
@@ -87,18 +84,20 @@ pub record Still (L : ℕ) (B : ℕ → ℕ → ℕ → ℕ) (p q : Pool) : Type
   pub private : Private L B q
 
 module _ (L : ℕ) (B : ℕ → ℕ → ℕ → ℕ) (p : Pool) (P : Private L B p) where
-  pub aside-still : (c : Aside) → Still L B p (asideBy L p c .pool)
-  unfolding asideBy
+  pub aside-still : (c : Aside) → Still L B p (asideEffect L p c .pool)
+  unfolding asideEffect
   aside-still (Commit list n offset len) = record { nodes = commit-nodes L B p P list n offset len; private = commit-keeps L B p P list n offset len }
   aside-still (CommitPage list n page write) = record { nodes = page-nodes L B p P list n page write; private = page-keeps L B p P list n page write }
   aside-still (Len n) = record { nodes = len-quiet ⊥ L p (P .sound) n .nodes; private = rw (len-same L p n) P }
   aside-still (Peek zero n page) = record { nodes = refl; private = P }
-  aside-still (Forecast n offset len) = record { nodes = forecast-quiet ⊥ L p (P .sound) n offset len .nodes; private = rw (forecast-same L p n offset len) P }
-  aside-still (Append n first pages) = record { nodes = append-quiet ⊥ L p (P .sound) n first pages .nodes; private = append-arrays L B p P n first pages }
+  aside-still (Forecast n offset len) =
+      record { nodes = forecast-quiet ⊥ L p (P .sound) n offset len .nodes; private = rw (forecast-same L p n offset len) P }
+  aside-still (Append n first pages) =
+      record { nodes = append-quiet ⊥ L p (P .sound) n first pages .nodes; private = append-arrays L B p P n first pages }
   aside-still (Remove n mapping) = record { nodes = remove-quiet ⊥ L p (P .sound) n mapping .nodes; private = remove-arrays L B p P n mapping }
 
-  pub aside-answers : (c : Aside) → Answers (Spent (TooFewFor L p c) (asideBy L p c .pool)) (asideBy L p c .result .answer)
-  unfolding asideBy
+  pub aside-answers : (c : Aside) → Answers (Spent (TooFewFor L p c) (asideEffect L p c .pool)) (asideEffect L p c .result .answer)
+  unfolding asideEffect
   aside-answers (Commit list n offset len) = commit-answers L B p P list n offset len
   aside-answers (CommitPage list n page write) = page-answers L B p P list n page write
   aside-answers (Len n) = len-quiet _ L p (P .sound) n .answers
@@ -107,8 +106,8 @@ module _ (L : ℕ) (B : ℕ → ℕ → ℕ → ℕ) (p : Pool) (P : Private L B
   aside-answers (Append n first pages) = append-quiet _ L p (P .sound) n first pages .answers
   aside-answers (Remove n mapping) = remove-quiet _ L p (P .sound) n mapping .answers
 
-  pub aside-lacks : (c : Aside) → TooFewFor L p c → asideBy L p c .result .answer ≡ Refused NoMemory
-  unfolding asideBy
+  pub aside-lacks : (c : Aside) → TooFewFor L p c → asideEffect L p c .result .answer ≡ Refused NoMemory
+  unfolding asideEffect
   aside-lacks (Commit list n offset len) l = commit-lacks L B p P list n offset len l
   aside-lacks (CommitPage list n page write) l = page-lacks L B p P list n page write l
   aside-lacks (Len n) l = absurd l

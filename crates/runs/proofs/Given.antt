@@ -26,7 +26,7 @@ use Rattle.shows.specs.Shows.{Peeked}
 use Rattle.shows.specs.Shows.Peeked.{nothing, bytes}
 use Rattle.shows.proofs.Peeks.{peek-called, peek-zero}
 use Rattle.runs.specs.Runs.{Result, resultOf}
-use Rattle.runs.specs.Arrays.{Arrays, reading, bytesIn, bytesBy}
+use Rattle.runs.specs.Arrays.{Arrays, readArray, bytesIn, bytesBy}
 use Rattle.runs.specs.Isolated.{paged, Isolated}
 use Rattle.runs.proofs.Lists.{is-part}
 use Rattle.runs.proofs.Objects.{by-leaf}
@@ -51,7 +51,8 @@ module _ (L : ℕ) (A : Arrays) (p : Pool) (I : Isolated L A p) (n : ℕ) where
     abbrev range : Filled
     range = filled p (readRange L (p .nodes) (p .mappings) n offset (readOf (p .pages) (p .used) (p .memory) buf))
 
-    read-inside : Leaf (p .nodes) n → offset + length buf ≤ nodeOf (p .nodes) n .size * L → resulting range ≡ resultOf (Done 0) 0 (take (length buf) (drop offset (A n)))
+    read-inside : Leaf (p .nodes) n → offset + length buf ≤ nodeOf (p .nodes) n .size * L
+        → resulting range ≡ resultOf (Done 0) 0 (take (length buf) (drop offset (A n)))
     read-inside leaf inside =
         let w = read-through L (paged L A) p (I .private) n offset buf leaf inside in
         let e = I .lengths n leaf in
@@ -64,11 +65,11 @@ module _ (L : ℕ) (A : Arrays) (p : Pool) (I : Isolated L A p) (n : ℕ) where
     read-leaf leaf true false e = refl
     read-leaf leaf false c e = refl
 
-    pub read-is : resulting (read L p n offset buf) ≡ reading live cached (A n) offset buf
+    pub read-is : resulting (read L p n offset buf) ≡ readArray live cached (A n) offset buf
     unfolding readAt againstReading insideOf
     read-is =
         by-leaf (unfilled p buf) (λ m. readAt L p m offset buf) L p (I .private .sound) n
-        (λ (b : Bool) (r : Filled). resulting r ≡ reading b cached (A n) offset buf) refl
+        (λ (b : Bool) (r : Filled). resulting r ≡ readArray b cached (A n) offset buf) refl
         (λ leaf. rw (I .lengths n leaf) (read-leaf leaf cached (leb (offset + length buf) (nodeOf (p .nodes) n .size * L)) refl))
 
   -- a peek shows what a read of the page gives
@@ -85,7 +86,7 @@ module _ (L : ℕ) (A : Arrays) (p : Pool) (I : Isolated L A p) (n : ℕ) where
     peek-by true g = shown-by (peek-called L p zero n page (replicate L 0) (length-replicate {A = ℕ} L 0) g)
     peek-by false g = peek-zero L p zero n page g
 
-    pub peek-is : peek L p zero n page ≡ pick (zeroPageOf L zero) (bytesIn (reading live cached (A n) (page * L) (replicate L 0))) []
+    pub peek-is : peek L p zero n page ≡ pick (zeroPageOf L zero) (bytesIn (readArray live cached (A n) (page * L) (replicate L 0))) []
     peek-is =
         peek-by (zeroPageOf L zero) refl
         ∙ ap (λ (r : Result). pick (zeroPageOf L zero) (bytesIn r) []) (read-is (page * L) (replicate L 0))

@@ -1,5 +1,5 @@
 -- The bytes of arrays that are copied, written and read, one at a time. Assumes nothing.
-use mathlib.Core.Path.{_≡_, refl, sym, ap, _∙_, subst}
+use mathlib.Core.Path.{_≡_, sym, ap, _∙_}
 use mathlib.Core.Bool.{_&&_}
 use mathlib.Core.List.{List, _++_}
 use Prim.Native.Nat.{ℕ, _+_, _-_, _*_, _/_, _%_, _≤_, _<_}
@@ -59,7 +59,8 @@ module _ (a : List ℕ) (offset : ℕ) (bytes : List ℕ) (done : ℕ) (inside :
       ap (λ (y : ℕ). getD (overwritten a offset bytes done) y 0) e ∙ getD-append-add head (drop (offset + done) a) j 0
       ∙ getD-drop (offset + done) a j 0 ∙ ap (λ (y : ℕ). getD a y 0) d
 
-  pub overwritten-at : (x : ℕ) → getD (overwritten a offset bytes done) x 0 ≡ pick (leb offset x && ltb x (offset + done)) (getD bytes (x - offset) 0) (getD a x 0)
+  pub overwritten-at : (x : ℕ)
+      → getD (overwritten a offset bytes done) x 0 ≡ pick (leb offset x && ltb x (offset + done)) (getD bytes (x - offset) 0) (getD a x 0)
   overwritten-at x =
       split (less x offset)
       (λ lo. before x lo ∙ (rw (lt-leb offset x lo)))
@@ -78,7 +79,8 @@ module _ (a : List ℕ) (offset len : ℕ) (inside : offset + len ≤ length a) 
   part-at x l = getD-take len (drop offset a) x 0 l ∙ getD-drop offset a x 0
 
   -- a list of that length which has the bytes, by page and place, is the part
-  pub is-part : (L : ℕ) (got : List ℕ) → length got ≡ len → ((j : ℕ) → j < len → getD got j 0 ≡ getD a ((offset + j) / L * L + (offset + j) % L) 0) → got ≡ take len (drop offset a)
+  pub is-part : (L : ℕ) (got : List ℕ) → length got ≡ len → ((j : ℕ) → j < len → getD got j 0 ≡ getD a ((offset + j) / L * L + (offset + j) % L) 0)
+      → got ≡ take len (drop offset a)
   is-part L got e f =
       ext-getD 0 got (take len (drop offset a)) (e ∙ sym part-length)
       (λ j l.

@@ -12,7 +12,6 @@ use Rattle.node.specs.declared.Node.{Node}
 use Rattle.node.specs.Node.{leafOf}
 use Rattle.tables.specs.Pool.{Pool}
 use Rattle.tables.specs.Tables.{nodeOf}
-use Rattle.sound.specs.Sound.{sound}
 use Rattle.sound.specs.Facts.{Leaf, Sound}
 use Rattle.soundness.proofs.Records.{node-out}
 use Rattle.soundness.proofs.Soundness.{facts-sound}
@@ -32,7 +31,8 @@ leaf-low L p S n leaf =
 
 module _ {R : Type 0} (refuse : Refusal → R) (does : ℕ → R) (L : ℕ) (p : Pool) (S : Sound L p) (object : ℕ) where
   -- what holds of NO_OBJECT, and of what is done with a live leaf, whichever the object is
-  pub by-leaf : (B : Bool → R → Type 0) → B false (refuse NoObject) → (Leaf (p .nodes) object → B true (does object)) → B (leafOf (nodeOf (p .nodes) object)) (onNode L p object refuse does)
+  pub by-leaf : (B : Bool → R → Type 0) → B false (refuse NoObject) → (Leaf (p .nodes) object → B true (does object))
+      → B (leafOf (nodeOf (p .nodes) object)) (onNode L p object refuse does)
   unfolding onNode findObject atNode
   by-leaf B none go = rw (facts-sound L p S) (by (leafOf (nodeOf (p .nodes) object)) refl)
     where
@@ -52,6 +52,7 @@ module _ {R : Type 0} (refuse : Refusal → R) (does : ℕ → R) (L : ℕ) (p :
   leaf-does leaf = rw (facts-sound L p S, lt-ltb object 64 (leaf-low L p S object leaf), leaf)
 
 -- tests, and what comes after them
-pub tested : {R : Type 0} (refuse : Refusal → R) (go : R) (B : R → Type 0) (a : Against) → ((r : Refusal) → a ≡ Why r → B (refuse r)) → (a ≡ Fine → B go) → B (unless a refuse go)
+pub tested : {R : Type 0} (refuse : Refusal → R) (go : R) (B : R → Type 0) (a : Against) → ((r : Refusal) → a ≡ Why r → B (refuse r))
+    → (a ≡ Fine → B go) → B (unless a refuse go)
 tested refuse go B (Why r) f g = f r refl
 tested refuse go B Fine f g = g refl

@@ -27,7 +27,7 @@ use Rattle.arrays.proofs.Write.{write-through}
 use Rattle.arrays.proofs.Commit.{commit-through}
 use Rattle.arrays.proofs.Tested.{Accepted, page-tested, page-does}
 use Rattle.arrays.proofs.Called.{Tests, Inside, writing-tests, committing-tests}
-use Rattle.arrays.proofs.Calls.{read-called, write-called, commit-called}
+use Rattle.arrays.proofs.Calls.{read-called, commit-called}
 use Rattle.arrays.proofs.Exact.{done-not, write-ends, short-refused, page-short}
 use Rattle.runs.specs.Runs.Aside.{Commit, CommitPage}
 use Rattle.runs.specs.Runs.Command.{Write}
@@ -120,7 +120,8 @@ module _ (L : ℕ) (B : ℕ → ℕ → ℕ → ℕ) (p : Pool) (P : Private L B
         inr (record { leaf = leaf; among = m; inside = omega arith }))
 
     -- accepted, all are
-    pub write-all : (v : ℕ) → write L p list n offset bytes .said .answer ≡ Done v → (v ≡ length bytes) × (write L p list n offset bytes .done ≡ length bytes)
+    pub write-all : (v : ℕ) → write L p list n offset bytes .said .answer ≡ Done v
+        → (v ≡ length bytes) × (write L p list n offset bytes .done ≡ length bytes)
     write-all v =
         write-by (λ r. r .said .answer ≡ Done v → (v ≡ length bytes) × (r .done ≡ length bytes)) (λ r t e. absurd (done-not e refl))
         (λ leaf e w h. ⊎-elim (λ g. (value h (g .answer), g .done)) (λ x. absurd (done-not h (x .1 .answer))) (w .ends))
@@ -143,7 +144,8 @@ module _ (L : ℕ) (B : ℕ → ℕ → ℕ → ℕ) (p : Pool) (P : Private L B
     pub commit-answers : Answers (Spent few (commit L p list n offset len .said .pool)) (commit L p list n offset len .said .answer)
     unfolding commitAt
     commit-answers =
-        on-leaf (refusedRange p list) (λ m. commitAt L p list m offset len) L p (P .sound) n (λ r. Answers (Spent few (r .said .pool)) (r .said .answer)) tt
+        on-leaf (refusedRange p list) (λ m. commitAt L p list m offset len) L p (P .sound) n
+        (λ r. Answers (Spent few (r .said .pool)) (r .said .answer)) tt
         (λ leaf.
         tested (refusedRange p list) (commitThrough L p list n offset len) (λ r. Answers (Spent few (r .said .pool)) (r .said .answer)) committing
         (λ r e. tests-fair (Spent few p) r (why-tests (Inside L (p .nodes) n offset len) (committing-tests L (p .nodes) n offset len (p .mappings) list) e))
@@ -175,7 +177,8 @@ module _ (L : ℕ) (B : ℕ → ℕ → ℕ → ℕ) (p : Pool) (P : Private L B
         by (refused why t e) = rw e (tests-fair (Spent none p) why t)
         by {r} (accepted (leaf, fine, g)) =
             ⊎-elim (λ f. answers-done (Spent none (r .pool)) (f .answer))
-            (⊎-elim (λ z. answers-done (Spent none (r .pool)) (z .answer)) (λ s. rw (s .answer) ((leaf, fine, s .writing, s .short), s .none))) (g .ends)
+            (⊎-elim (λ z. answers-done (Spent none (r .pool)) (z .answer)) (λ s. rw (s .answer) ((leaf, fine, s .writing, s .short), s .none)))
+            (g .ends)
 
     pub page-lacks : none → commitPage L p list n page write .answer ≡ Refused NoMemory
     page-lacks (leaf, fine, writing, more) = page-short (page-does L B p P list n page write leaf fine) writing more

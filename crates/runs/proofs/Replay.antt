@@ -1,5 +1,5 @@
 -- What the reads of an object give, and the array it ends with, follow from its own reads and writes and its array at their start. Assumes nothing.
-use mathlib.Core.Path.{_≡_, refl, sym, ap, _∙_, subst}
+use mathlib.Core.Path.{_≡_, refl, ap, _∙_, subst}
 use mathlib.Core.Bool.{Bool, true, false}
 use mathlib.Core.List.{List, [], _∷_}
 use Prim.Native.Nat.{ℕ, _+_}
@@ -13,12 +13,12 @@ use Rattle.sound.specs.Facts.{Leaf}
 use Rattle.pool.specs.declared.answer.Answer.the-variants.{Done, Refused}
 use Rattle.pool.specs.declared.answer.Refusal.the-variants.{OutOfRange}
 use Rattle.ranges.specs.Ranges.{cachedOf}
-use Rattle.runs.specs.Runs.{Command, Result, resultOf, turnBy, Event, history}
+use Rattle.runs.specs.Runs.{Command, Result, resultOf, effect, history}
 use Rattle.runs.specs.Runs.Command.{New, Child, Read, Write, Also}
-use Rattle.runs.specs.Arrays.{Arrays, overwritten, arrayBy, arraysAfter, reading}
+use Rattle.runs.specs.Arrays.{Arrays, overwritten, arrayBy, arraysAfter, readArray}
 use Rattle.runs.specs.Isolated.{Isolated}
-use Rattle.runs.specs.Own.{Deed, ownBy, own, got, readsBy, readsOf}
-use Rattle.runs.specs.Own.Deed.{Asked, Put}
+use Rattle.runs.specs.Own.{Deed, deedsBy, deeds, got, readsBy, readsOf}
+use Rattle.runs.specs.Own.Deed.{Asked, Overwrites}
 use Rattle.runs.proofs.Records.{Same}
 use Rattle.runs.proofs.Given.{read-is}
 use Rattle.runs.proofs.Steps.{given-same, step-isolated}
@@ -27,20 +27,20 @@ use Rattle.runs.proofs.Turns.{turn-same, turn-keeps}
 -- what deeds give and leave, from an array on
 
 abbrev pub shown : Bool → List ℕ → ℕ → ℕ → Result
-shown cached a offset len = got (reading true cached a offset (replicate len 0))
+shown cached a offset len = got (readArray true cached a offset (replicate len 0))
 
 unfoldable pub replay : Bool → List ℕ → List Deed → List Result
 replay cached a [] = []
 replay cached a (Asked offset len ∷ ds) = shown cached a offset len ∷ replay cached a ds
-replay cached a (Put offset bytes answer done ∷ ds) = replay cached (overwritten a offset bytes done) ds
+replay cached a (Overwrites offset bytes answer done ∷ ds) = replay cached (overwritten a offset bytes done) ds
 
 unfoldable pub ending : List ℕ → List Deed → List ℕ
 ending a [] = a
 ending a (Asked offset len ∷ ds) = ending a ds
-ending a (Put offset bytes answer done ∷ ds) = ending (overwritten a offset bytes done) ds
+ending a (Overwrites offset bytes answer done ∷ ds) = ending (overwritten a offset bytes done) ds
 
 -- what a buffer held before doesn't count
-got-shown : (cached : Bool) (a : List ℕ) (offset : ℕ) (buf : List ℕ) → got (reading true cached a offset buf) ≡ shown cached a offset (length buf)
+got-shown : (cached : Bool) (a : List ℕ) (offset : ℕ) (buf : List ℕ) → got (readArray true cached a offset buf) ≡ shown cached a offset (length buf)
 got-shown false a offset buf = refl
 got-shown true a offset buf = rw (length-replicate {A = ℕ} (length buf) 0) (by (leb (offset + length buf) (length a)))
   where
@@ -63,37 +63,40 @@ module _ (L : ℕ) (A : Arrays) (p : Pool) (I : Isolated L A p) (o : ℕ) (live 
   cached = cachedOf (p .nodes) o
 
   abbrev After : Command → Type 0
-  After c = Follows cached (arrayBy L A c (turnBy L p c .result) o) rs ds end
+  After c = Follows cached (arrayBy L A c (effect L p c .result) o) rs ds end
 
   abbrev Before : Command → Type 0
-  Before c = Follows cached (A o) (readsBy o c (turnBy L p c .result) rs) (ownBy o c (turnBy L p c .result) ds) end
+  Before c = Follows cached (A o) (readsBy o c (effect L p c .result) rs) (deedsBy o c (effect L p c .result) ds) end
 
   -- a call that is no write of o leaves its array
-  still : (c : Command) → ((list : List ℕ) (offset : ℕ) (bytes : List ℕ) → c ≡ Write list o offset bytes → ⊥) → After c → Follows cached (A o) rs ds end
+  still : (c : Command) → ((list : List ℕ) (offset : ℕ) (bytes : List ℕ) → c ≡ Write list o offset bytes → ⊥) → After c
+      → Follows cached (A o) rs ds end
   still c not-own f = subst (λ (a : List ℕ). Follows cached a rs ds end) (turn-keeps L A p I o live c not-own) f
 
-  read-got : (offset : ℕ) (buf : List ℕ) → got (turnBy L p (Read o offset buf) .result) ≡ shown cached (A o) offset (length buf)
-  unfolding turnBy
+  read-got : (offset : ℕ) (buf : List ℕ) → got (effect L p (Read o offset buf) .result) ≡ shown cached (A o) offset (length buf)
+  unfolding effect
   read-got offset buf =
-      ap got (read-is L A p I o offset buf) ∙ ap (λ (b : Bool). got (reading b cached (A o) offset buf)) live ∙ got-shown cached (A o) offset buf
+      ap got (read-is L A p I o offset buf) ∙ ap (λ (b : Bool). got (readArray b cached (A o) offset buf)) live ∙ got-shown cached (A o) offset buf
 
   read-by : (n offset : ℕ) (buf : List ℕ) (b : Bool) → eqb n o ≡ b → Follows cached (A o) rs ds end
-      → Follows cached (A o) (pick b (got (turnBy L p (Read n offset buf) .result) ∷ rs) rs) (pick b (Asked offset (length buf) ∷ ds) ds) end
+      → Follows cached (A o) (pick b (got (effect L p (Read n offset buf) .result) ∷ rs) rs) (pick b (Asked offset (length buf) ∷ ds) ds) end
   unfolding replay ending
   read-by n offset buf true t f =
       record {
-        reads = rw (eqb-true n o t) (ap (λ (r : Result). r ∷ rs) (read-got offset buf) ∙ ap (λ (x : List Result). shown cached (A o) offset (length buf) ∷ x) (f .reads));
+        reads = rw (eqb-true n o t)
+            (ap (λ (r : Result). r ∷ rs) (read-got offset buf) ∙ ap (λ (x : List Result). shown cached (A o) offset (length buf) ∷ x) (f .reads));
         ends = f .ends;
       }
   read-by n offset buf false t f = f
 
-  write-by : (list : List ℕ) (n offset : ℕ) (bytes : List ℕ) (b : Bool) → eqb n o ≡ b → After (Write list n offset bytes) → let r = turnBy L p (Write list n offset bytes) .result in
-      Follows cached (A o) rs (pick b (Put offset bytes (r .answer) (r .done) ∷ ds) ds) end
+  write-by : (list : List ℕ) (n offset : ℕ) (bytes : List ℕ) (b : Bool) → eqb n o ≡ b → After (Write list n offset bytes)
+      → let r = effect L p (Write list n offset bytes) .result in
+      Follows cached (A o) rs (pick b (Overwrites offset bytes (r .answer) (r .done) ∷ ds) ds) end
   unfolding replay ending
   write-by list n offset bytes true t f =
-      let r = turnBy L p (Write list n offset bytes) .result in
+      let r = effect L p (Write list n offset bytes) .result in
       let e : arrayBy L A (Write list n offset bytes) r o ≡ overwritten (A o) offset bytes (r .done) =
-      rw (eqb-true n o t) (given-same A o (overwritten (A o) offset bytes (turnBy L p (Write list o offset bytes) .result .done))) in
+      rw (eqb-true n o t) (given-same A o (overwritten (A o) offset bytes (effect L p (Write list o offset bytes) .result .done))) in
       record { reads = f .reads ∙ ap (λ (a : List ℕ). replay cached a ds) e; ends = f .ends ∙ ap (λ (a : List ℕ). ending a ds) e }
   write-by list n offset bytes false t f =
       still (Write list n offset bytes) (λ l x y e. eqb-false n o t (let d : n ≡ o = cc in d)) f
@@ -101,17 +104,18 @@ module _ (L : ℕ) (A : Arrays) (p : Pool) (I : Isolated L A p) (o : ℕ) (live 
   turn : (c : Command) → After c → Before c
   turn (New pages) f = still (New pages) (λ l x y e. let z : _≡_ {A = ℕ} 0 1 = cc in omega arith) f
   turn (Child list n offset len) f = still (Child list n offset len) (λ l x y e. let z : _≡_ {A = ℕ} 0 1 = cc in omega arith) f
-  turn (Read n offset buf) f = read-by n offset buf (eqb n o) refl (still (Read n offset buf) (λ l x y e. let z : _≡_ {A = ℕ} 0 1 = cc in omega arith) f)
+  turn (Read n offset buf) f =
+      read-by n offset buf (eqb n o) refl (still (Read n offset buf) (λ l x y e. let z : _≡_ {A = ℕ} 0 1 = cc in omega arith) f)
   turn (Write list n offset bytes) f = write-by list n offset bytes (eqb n o) refl f
   turn (Also c) f = still (Also c) (λ l x y e. let z : _≡_ {A = ℕ} 0 1 = cc in omega arith) f
 
 pub follows : (L : ℕ) (A : Arrays) (p : Pool) → Isolated L A p → (o : ℕ) → Leaf (p .nodes) o → (run : List Command)
-    → let h = history L p run in Follows (cachedOf (p .nodes) o) (A o) (readsOf o h) (own o h) (arraysAfter L A h o)
-unfolding history readsOf own arraysAfter replay ending
+    → let h = history L p run in Follows (cachedOf (p .nodes) o) (A o) (readsOf o h) (deeds o h) (arraysAfter L A h o)
+unfolding history readsOf deeds arraysAfter replay ending
 follows L A p I o live [] = record { reads = refl; ends = refl }
 follows L A p I o live (c ∷ cs) =
-    let q = turnBy L p c .pool in
-    let C = arrayBy L A c (turnBy L p c .result) in
+    let q = effect L p c .pool in
+    let C = arrayBy L A c (effect L p c .result) in
     let s = turn-same L A p I o live c in
-    turn L A p I o live (readsOf o (history L q cs)) (own o (history L q cs)) (arraysAfter L C (history L q cs) o) c
+    turn L A p I o live (readsOf o (history L q cs)) (deeds o (history L q cs)) (arraysAfter L C (history L q cs) o) c
     (rw (same-cached s) at (follows L C q (step-isolated L A p I c) o (s .leaf ∙ live) cs))

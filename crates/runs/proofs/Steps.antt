@@ -1,9 +1,9 @@
 -- One call of a run, whichever it is, keeps the invariant. Assumes nothing.
-use mathlib.Core.Path.{_≡_, refl, sym, ap, _∙_, subst}
+use mathlib.Core.Path.{_≡_, refl, sym, ap, _∙_}
 use mathlib.Core.List.{List}
 use mathlib.Core.Logic.{_⊎_, inl, inr}
 use mathlib.Core.Bool.{_&&_}
-use Prim.Native.Nat.{ℕ, _+_, _-_, _*_, _/_, _%_, _≤_, _<_}
+use Prim.Native.Nat.{ℕ, _+_, _-_, _*_, _/_, _≤_, _<_}
 use native.Mathlib.Omega.{arith}
 use native.Mathlib.Nat.{div-add-mod', add-mul}
 use lib.Dec.{leb, ltb}
@@ -11,7 +11,6 @@ use lib.ListN.{length, getD, take, drop, replicate, length-replicate}
 use borrow.Author.Tests.{eq-eqb, ne-eqb}
 use Rattle.logic.specs.Pick.{pick}
 use Rattle.logic.proofs.Means.{equal, split}
-use Rattle.node.specs.declared.Node.{Node}
 use Rattle.tables.specs.Pool.{Pool}
 use Rattle.tables.specs.Tables.{nodeOf}
 use Rattle.sound.specs.Facts.{Leaf}
@@ -32,23 +31,24 @@ use Rattle.births.proofs.Fitting.{Allows, allows}
 use Rattle.arrays.specs.Arrays.{writeArray}
 use Rattle.arrays.proofs.Bytes.{write-none, write-other}
 use Rattle.arrays.proofs.Calls.{read-keeps, write-keeps}
-use Rattle.runs.specs.Runs.{Command, asideBy, turnBy}
+use Rattle.runs.specs.Runs.{Command, asideEffect, effect}
 use Rattle.runs.specs.Runs.Command.{New, Child, Read, Write, Also}
-use Rattle.runs.specs.Arrays.{Arrays, given, overwritten, newBy, childBy, arrayBy}
+use Rattle.runs.specs.Arrays.{Arrays, withArray, overwritten, newBy, childBy, arrayBy}
 use Rattle.runs.specs.Isolated.{paged, Isolated}
 use Rattle.runs.proofs.Lists.{zeros-at, overwritten-none, overwritten-length, overwritten-at, part-length, part-at}
 use Rattle.runs.proofs.Objects.{on-leaf, tested}
 use Rattle.runs.proofs.Ranges.{read-nodes, Lies, write-nodes, write-done}
 use Rattle.runs.proofs.Asides.{Still, aside-still}
 
-pub given-same : (A : Arrays) (n : ℕ) (a : List ℕ) → given A n a n ≡ a
+pub given-same : (A : Arrays) (n : ℕ) (a : List ℕ) → withArray A n a n ≡ a
 given-same A n a = rw (eq-eqb n n refl)
 
-pub given-other : (A : Arrays) (n : ℕ) (a : List ℕ) (m : ℕ) → (m ≡ n → ⊥) → given A n a m ≡ A m
+pub given-other : (A : Arrays) (n : ℕ) (a : List ℕ) (m : ℕ) → (m ≡ n → ⊥) → withArray A n a m ≡ A m
 given-other A n a m ne = rw (ne-eqb m n ne)
 
 -- only the bytes of live objects matter, and of those the ones below the size
-private-inside : (L : ℕ) (A B : ℕ → ℕ → ℕ → ℕ) (p : Pool) → ((m i k : ℕ) → i < nodeOf (p .nodes) m .size → k < L → A m i k ≡ B m i k) → Private L A p → Private L B p
+private-inside : (L : ℕ) (A B : ℕ → ℕ → ℕ → ℕ) (p : Pool) → ((m i k : ℕ) → i < nodeOf (p .nodes) m .size → k < L → A m i k ≡ B m i k) → Private L A p
+    → Private L B p
 private-inside L A B p same P =
     record {
       sound = P .sound;
@@ -60,7 +60,8 @@ private-inside L A B p same P =
 
 -- a written byte of the object itself
 own-at : (L : ℕ) (A : ℕ → ℕ → ℕ → ℕ) (n offset : ℕ) (bytes : List ℕ) (done i k : ℕ)
-    → writeArray L A n offset bytes done n i k ≡ pick (leb offset (i * L + k) && ltb (i * L + k) (offset + done)) (getD bytes (i * L + k - offset) 0) (A n i k)
+    → writeArray L A n offset bytes done n i k
+    ≡ pick (leb offset (i * L + k) && ltb (i * L + k) (offset + done)) (getD bytes (i * L + k - offset) 0) (A n i k)
 unfolding writeArray
 own-at L A n offset bytes done i k = rw (eq-eqb n n refl)
 
@@ -74,7 +75,7 @@ module _ (L : ℕ) (A : Arrays) (p : Pool) (I : Isolated L A p) where
 
   -- new
 
-  blank-at : (pages i m j k : ℕ) → blankArray B i m j k ≡ paged L (given A i (replicate (pages * L) 0)) m j k
+  blank-at : (pages i m j k : ℕ) → blankArray B i m j k ≡ paged L (withArray A i (replicate (pages * L) 0)) m j k
   blank-at pages i m j k =
       split (equal m i)
       (λ e. rw (e, blank-new B i j k, given-same A i (replicate (pages * L) 0)) (sym (zeros-at (pages * L) (j * L + k))))
@@ -83,7 +84,8 @@ module _ (L : ℕ) (A : Arrays) (p : Pool) (I : Isolated L A p) where
   blank-isolated : (pages : ℕ) (a : Answer) (q : Pool) → Gave p (BlankBorn L B p pages) a q → Isolated L (newBy L A pages a) q
   blank-isolated pages (Done i) q g =
       record {
-        private = private-inside L (blankArray B i) (paged L (given A i (replicate (pages * L) 0))) q (λ m j k l h. blank-at pages i m j k) (g .private);
+        private = private-inside L (blankArray B i) (paged L (withArray A i (replicate (pages * L) 0))) q (λ m j k l h. blank-at pages i m j k)
+            (g .private);
         lengths = λ n leaf.
             split (equal n i)
             (λ e. rw (e, given-same A i (replicate (pages * L) 0), g .size) (length-replicate {A = ℕ} (pages * L) 0))
@@ -121,16 +123,17 @@ module _ (L : ℕ) (A : Arrays) (p : Pool) (I : Isolated L A p) where
           let q : (offset / L + j) * L + k ≡ offset + (j * L + k) = omega arith in
           ap (λ (y : ℕ). getD (A n) y 0) q ∙ sym (part-at (A n) offset len inside (j * L + k) (omega arith))
 
-      clone-at : (c m j k : ℕ) → (m ≡ c → j < len / L) → k < L → cloneArray B n c (offset / L) m j k ≡ paged L (given A c part) m j k
+      clone-at : (c m j k : ℕ) → (m ≡ c → j < len / L) → k < L → cloneArray B n c (offset / L) m j k ≡ paged L (withArray A c part) m j k
       clone-at c m j k low h =
           split (equal m c)
           (λ e. rw (e, clone-child B n c (offset / L) j k, given-same A c part) (clone-byte j k (low e) h))
           (λ ne. rw (clone-other B n c (offset / L) m j k ne, given-other A c part m ne))
 
-    clone-isolated : (a : Answer) (q : Pool) → ((c : ℕ) → a ≡ Done c → Fits) → Gave p (CloneBorn L B p n (offset / L) (len / L)) a q → Isolated L (childBy A n offset len a) q
+    clone-isolated : (a : Answer) (q : Pool) → ((c : ℕ) → a ≡ Done c → Fits) → Gave p (CloneBorn L B p n (offset / L) (len / L)) a q
+        → Isolated L (childBy A n offset len a) q
     clone-isolated (Done c) q f g =
         record {
-          private = private-inside L (cloneArray B n c (offset / L)) (paged L (given A c part)) q
+          private = private-inside L (cloneArray B n c (offset / L)) (paged L (withArray A c part)) q
               (λ m j k l h. clone-at (f c refl) c m j k (λ e. let z : j < nodeOf (q .nodes) c .size = rw e at l in rw (g .size) at z) h) (g .private);
           lengths = λ m leaf.
               split (equal m c)
@@ -144,9 +147,11 @@ module _ (L : ℕ) (A : Arrays) (p : Pool) (I : Isolated L A p) where
     pub child-fits : (list : List ℕ) (c : ℕ) → createChild L p list n offset len .answer ≡ Done c → Fits
     unfolding childAt
     child-fits list c =
-        on-leaf (refusedOf p list) (λ m. childAt L p list m offset len) L p (I .private .sound) n (λ (s : Said). s .answer ≡ Done c → Fits) (λ e. no e)
+        on-leaf (refusedOf p list) (λ m. childAt L p list m offset len) L p (I .private .sound) n (λ (s : Said). s .answer ≡ Done c → Fits)
+        (λ e. no e)
         (λ leaf.
-        tested (refusedOf p list) (numbered p list n (offset / L) (len / L)) (λ (s : Said). s .answer ≡ Done c → Fits) (againstChild L (nodeOf (p .nodes) n) offset len)
+        tested (refusedOf p list) (numbered p list n (offset / L) (len / L)) (λ (s : Said). s .answer ≡ Done c → Fits)
+        (againstChild L (nodeOf (p .nodes) n) offset len)
         (λ r e h. no h) (λ e h. record { leaf = leaf; allows = allows L (nodeOf (p .nodes) n) offset len e }))
       where
         no : {r : Refusal} → Refused r ≡ Done c → Fits
@@ -165,7 +170,8 @@ module _ (L : ℕ) (A : Arrays) (p : Pool) (I : Isolated L A p) where
         let m = l .inside in
         own-at L B n offset bytes done i k ∙ sym (overwritten-at (A n) offset bytes done (omega arith) (l .among) (i * L + k))
 
-    write-at : (done : ℕ) → Done-so done → (m i k : ℕ) → writeArray L B n offset bytes done m i k ≡ paged L (given A n (overwritten (A n) offset bytes done)) m i k
+    write-at : (done : ℕ) → Done-so done → (m i k : ℕ)
+        → writeArray L B n offset bytes done m i k ≡ paged L (withArray A n (overwritten (A n) offset bytes done)) m i k
     write-at done d m i k =
         split (equal m n)
         (λ e. rw (e, given-same A n (overwritten (A n) offset bytes done)) (same-at done i k d))
@@ -178,13 +184,13 @@ module _ (L : ℕ) (A : Arrays) (p : Pool) (I : Isolated L A p) where
         let m = l .inside in
         overwritten-length (A n) offset bytes done (omega arith) (l .among)
 
-    pub write-isolated : let r = write L p list n offset bytes in Isolated L (given A n (overwritten (A n) offset bytes (r .done))) (r .said .pool)
+    pub write-isolated : let r = write L p list n offset bytes in Isolated L (withArray A n (overwritten (A n) offset bytes (r .done))) (r .said .pool)
     write-isolated =
         let r = write L p list n offset bytes in
         let d = write-done L B p (I .private) list n offset bytes in
         let a = overwritten (A n) offset bytes (r .done) in
         record {
-          private = private-inside L (writeArray L B n offset bytes (r .done)) (paged L (given A n a)) (r .said .pool)
+          private = private-inside L (writeArray L B n offset bytes (r .done)) (paged L (withArray A n a)) (r .said .pool)
               (λ m i k l h. write-at (r .done) d m i k) (write-keeps L B p (I .private) list n offset bytes);
           lengths = rw (write-nodes L B p (I .private) list n offset bytes)
               (λ m leaf.
@@ -195,8 +201,8 @@ module _ (L : ℕ) (A : Arrays) (p : Pool) (I : Isolated L A p) where
 
   -- each of them
 
-  pub step-isolated : (c : Command) → Isolated L (arrayBy L A c (turnBy L p c .result)) (turnBy L p c .pool)
-  unfolding turnBy
+  pub step-isolated : (c : Command) → Isolated L (arrayBy L A c (effect L p c .result)) (effect L p c .pool)
+  unfolding effect
   step-isolated (New pages) = blank-isolated pages (new L p pages .answer) (new L p pages .pool) (new-arrays L B p (I .private) pages)
   step-isolated (Child list n offset len) =
       let r = createChild L p list n offset len in
@@ -205,4 +211,4 @@ module _ (L : ℕ) (A : Arrays) (p : Pool) (I : Isolated L A p) where
       still-isolated (read L p n offset buf .pool)
       (record { nodes = read-nodes L B p (I .private) n offset buf; private = read-keeps L B p (I .private) n offset buf })
   step-isolated (Write list n offset bytes) = write-isolated list n offset bytes
-  step-isolated (Also c) = still-isolated (asideBy L p c .pool) (aside-still L B p (I .private) c)
+  step-isolated (Also c) = still-isolated (asideEffect L p c .pool) (aside-still L B p (I .private) c)

@@ -1,9 +1,8 @@
 -- One call of a run, whichever it is: how it is answered, and what it leaves of a live object. Assumes nothing.
-use mathlib.Core.Path.{_≡_, refl, sym, ap, _∙_, subst}
+use mathlib.Core.Path.{_≡_, refl, ap, _∙_}
 use mathlib.Core.Bool.{Bool, true, false}
 use mathlib.Core.List.{List}
 use Prim.Native.Nat.{ℕ, _*_, _/_}
-use native.Mathlib.Omega.{arith}
 use lib.Dec.{eqb}
 use lib.ListN.{take, drop, replicate}
 use borrow.Author.Tests.{eq-eqb, ne-eqb}
@@ -22,7 +21,7 @@ use Rattle.ranges.specs.Ranges.{read, write}
 use Rattle.births.specs.Births.{Gave, Newborn, BlankBorn, CloneBorn}
 use Rattle.births.proofs.Arrays.{new-arrays, child-arrays}
 use Rattle.births.proofs.Cloned.{leaf-live}
-use Rattle.runs.specs.Runs.{Command, turnBy, asideBy}
+use Rattle.runs.specs.Runs.{Command, effect, asideEffect}
 use Rattle.runs.specs.Runs.Command.{New, Child, Read, Write, Also}
 use Rattle.runs.specs.Arrays.{Arrays, overwritten, newBy, childBy, arrayBy, named, makes}
 use Rattle.runs.specs.Isolated.{paged, Isolated}
@@ -39,16 +38,16 @@ module _ (L : ℕ) (A : Arrays) (p : Pool) (I : Isolated L A p) where
 
   -- how it is answered
 
-  pub turn-answers : (c : Command) → Answers (Spent (TooFew L p c) (turnBy L p c .pool)) (turnBy L p c .result .answer)
-  unfolding turnBy
+  pub turn-answers : (c : Command) → Answers (Spent (TooFew L p c) (effect L p c .pool)) (effect L p c .result .answer)
+  unfolding effect
   turn-answers (New pages) = new-answers _ L p (I .private .sound) pages
   turn-answers (Child list n offset len) = child-answers _ L p list n offset len (I .private .sound)
   turn-answers (Read n offset buf) = read-answers L B p (I .private) _ n offset buf
   turn-answers (Write list n offset bytes) = write-answers L B p (I .private) list n offset bytes
   turn-answers (Also c) = aside-answers L B p (I .private) c
 
-  pub turn-lacks : (c : Command) → TooFew L p c → turnBy L p c .result .answer ≡ Refused NoMemory
-  unfolding turnBy
+  pub turn-lacks : (c : Command) → TooFew L p c → effect L p c .result .answer ≡ Refused NoMemory
+  unfolding effect
   turn-lacks (New pages) l = absurd l
   turn-lacks (Child list n offset len) l = absurd l
   turn-lacks (Read n offset buf) l = absurd l
@@ -75,21 +74,22 @@ module _ (L : ℕ) (A : Arrays) (p : Pool) (I : Isolated L A p) where
   clone-live o n first pages (Done i) q g = born-live o g
   clone-live o n first pages (Refused r) q g = stay-live o q (ap (λ (x : Pool). x .nodes) g)
 
-  pub turn-live : (o : ℕ) (c : Command) → Lives o (makes o c (turnBy L p c .result .answer)) (turnBy L p c .pool)
-  unfolding turnBy
+  pub turn-live : (o : ℕ) (c : Command) → Lives o (makes o c (effect L p c .result .answer)) (effect L p c .pool)
+  unfolding effect
   turn-live o (New pages) = blank-live o pages (new L p pages .answer) (new L p pages .pool) (new-arrays L B p (I .private) pages)
   turn-live o (Child list n offset len) =
       let r = createChild L p list n offset len in
       clone-live o n (offset / L) (len / L) (r .answer) (r .pool) (child-arrays L B p (I .private) list n offset len)
   turn-live o (Read n offset buf) = stay-live o (read L p n offset buf .pool) (read-nodes L B p (I .private) n offset buf)
-  turn-live o (Write list n offset bytes) = stay-live o (write L p list n offset bytes .said .pool) (write-nodes L B p (I .private) list n offset bytes)
-  turn-live o (Also c) = stay-live o (asideBy L p c .pool) (aside-still L B p (I .private) c .nodes)
+  turn-live o (Write list n offset bytes) =
+      stay-live o (write L p list n offset bytes .said .pool) (write-nodes L B p (I .private) list n offset bytes)
+  turn-live o (Also c) = stay-live o (asideEffect L p c .pool) (aside-still L B p (I .private) c .nodes)
 
   -- a live object: its record stays, and its array changes by its own writes alone
 
   module _ (o : ℕ) (live : Leaf (p .nodes) o) where
-    pub turn-same : (c : Command) → Same o (p .nodes) (turnBy L p c .pool .nodes)
-    unfolding turnBy
+    pub turn-same : (c : Command) → Same o (p .nodes) (effect L p c .pool .nodes)
+    unfolding effect
     turn-same (New pages) = new-kept L p (I .private .sound) o live pages
     turn-same (Child list n offset len) = child-kept L p (I .private .sound) o live list n offset len
     turn-same (Read n offset buf) = same-nodes (read-nodes L B p (I .private) n offset buf)
@@ -103,12 +103,14 @@ module _ (L : ℕ) (A : Arrays) (p : Pool) (I : Isolated L A p) where
     blank-keeps pages (Done x) q g = given-other A x (replicate (pages * L) 0) o (taken x (g .free))
     blank-keeps pages (Refused r) q g = refl
 
-    clone-keeps : (n offset len : ℕ) (a : Answer) (q : Pool) → Gave p (CloneBorn L B p n (offset / L) (len / L)) a q → childBy A n offset len a o ≡ A o
+    clone-keeps : (n offset len : ℕ) (a : Answer) (q : Pool) → Gave p (CloneBorn L B p n (offset / L) (len / L)) a q
+        → childBy A n offset len a o ≡ A o
     clone-keeps n offset len (Done x) q g = given-other A x (take len (drop offset (A n))) o (taken x (g .free))
     clone-keeps n offset len (Refused r) q g = refl
 
-    pub turn-keeps : (c : Command) → ((list : List ℕ) (offset : ℕ) (bytes : List ℕ) → c ≡ Write list o offset bytes → ⊥) → arrayBy L A c (turnBy L p c .result) o ≡ A o
-    unfolding turnBy
+    pub turn-keeps : (c : Command) → ((list : List ℕ) (offset : ℕ) (bytes : List ℕ) → c ≡ Write list o offset bytes → ⊥)
+        → arrayBy L A c (effect L p c .result) o ≡ A o
+    unfolding effect
     turn-keeps (New pages) not-own = blank-keeps pages (new L p pages .answer) (new L p pages .pool) (new-arrays L B p (I .private) pages)
     turn-keeps (Child list n offset len) not-own =
         let r = createChild L p list n offset len in

@@ -22,8 +22,8 @@ abbrev pub nobody : Arrays
 nobody = λ n. []
 
 -- object n gets array a, and the others keep theirs
-abbrev pub given : Arrays → ℕ → List ℕ → Arrays
-given A n a = λ m. pick (eqb m n) a (A m)
+abbrev pub withArray : Arrays → ℕ → List ℕ → Arrays
+withArray A n a = λ m. pick (eqb m n) a (A m)
 
 -- the array with the first `done` of the bytes in place of those from the offset on
 abbrev pub overwritten : List ℕ → ℕ → List ℕ → ℕ → List ℕ
@@ -31,19 +31,19 @@ overwritten a offset bytes done = take offset a ++ take done bytes ++ drop (offs
 
 -- new gives an object zeros
 abbrev pub newBy : ℕ → Arrays → ℕ → Answer → Arrays
-newBy L A pages (Done i) = given A i (replicate (pages * L) 0)
+newBy L A pages (Done i) = withArray A i (replicate (pages * L) 0)
 newBy L A pages (Refused r) = A
 
 -- create_child copies the named range of object n, and nothing before or after it
 abbrev pub childBy : Arrays → ℕ → ℕ → ℕ → Answer → Arrays
-childBy A n offset len (Done c) = given A c (take len (drop offset (A n)))
+childBy A n offset len (Done c) = withArray A c (take len (drop offset (A n)))
 childBy A n offset len (Refused r) = A
 
 -- a write, refused or not, puts the bytes that it calls done; nothing else changes an array
 abbrev pub arrayBy : ℕ → Arrays → Command → Result → Arrays
 arrayBy L A (New pages) r = newBy L A pages (r .answer)
 arrayBy L A (Child list n offset len) r = childBy A n offset len (r .answer)
-arrayBy L A (Write list n offset bytes) r = given A n (overwritten (A n) offset bytes (r .done))
+arrayBy L A (Write list n offset bytes) r = withArray A n (overwritten (A n) offset bytes (r .done))
 arrayBy L A (Read n offset buf) r = A
 arrayBy L A (Also c) r = A
 
@@ -74,8 +74,8 @@ lives o was (e ∷ es) = lives o (pick (makes o (e .command) (e .result .answer)
 
 -- what a read of array a gives, where the object lives and where its policy is Cached: the bytes from the offset on, as many as the buffer is long,
 -- if they lie inside; else a refusal, which leaves the buffer
-abbrev pub reading : Bool → Bool → List ℕ → ℕ → List ℕ → Result
-reading live cached a offset buf =
+abbrev pub readArray : Bool → Bool → List ℕ → ℕ → List ℕ → Result
+readArray live cached a offset buf =
     pick live
     (pick cached
     (pick (leb (offset + length buf) (length a)) (resultOf (Done 0) 0 (take (length buf) (drop offset a)))

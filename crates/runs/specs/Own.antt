@@ -13,20 +13,20 @@ use Rattle.runs.specs.Arrays.{bytesIn}
 -- number nor what a lent list or buffer held before
 pub data Deed : Type 0 where
   Asked : (offset len : ℕ) → Deed
-  Put : (offset : ℕ) (bytes : List ℕ) (answer : Answer) (done : ℕ) → Deed
+  Overwrites : (offset : ℕ) (bytes : List ℕ) (answer : Answer) (done : ℕ) → Deed
 
 -- before those of later calls
-abbrev pub ownBy : ℕ → Command → Result → List Deed → List Deed
-ownBy o (Read n offset buf) r ds = pick (eqb n o) (Asked offset (length buf) ∷ ds) ds
-ownBy o (Write list n offset bytes) r ds = pick (eqb n o) (Put offset bytes (r .answer) (r .done) ∷ ds) ds
-ownBy o (New pages) r ds = ds
-ownBy o (Child list n offset len) r ds = ds
-ownBy o (Also c) r ds = ds
+abbrev pub deedsBy : ℕ → Command → Result → List Deed → List Deed
+deedsBy o (Read n offset buf) r ds = pick (eqb n o) (Asked offset (length buf) ∷ ds) ds
+deedsBy o (Write list n offset bytes) r ds = pick (eqb n o) (Overwrites offset bytes (r .answer) (r .done) ∷ ds) ds
+deedsBy o (New pages) r ds = ds
+deedsBy o (Child list n offset len) r ds = ds
+deedsBy o (Also c) r ds = ds
 
 -- o's own reads and writes, in order
-unfoldable pub own : ℕ → List Event → List Deed
-own o [] = []
-own o (e ∷ es) = ownBy o (e .command) (e .result) (own o es)
+unfoldable pub deeds : ℕ → List Event → List Deed
+deeds o [] = []
+deeds o (e ∷ es) = deedsBy o (e .command) (e .result) (deeds o es)
 
 -- what a read gave: its answer, and the bytes if it was accepted
 abbrev pub got : Result → Result

@@ -41,34 +41,34 @@ abbrev pub resultOf : Answer → ℕ → List ℕ → Result
 resultOf a d b = record { answer = a; done = d; buf = b }
 
 -- with the pool that it left
-pub record Turn : Type 0 where
+pub record Effect : Type 0 where
   pub result : Result
   pub pool : Pool
 
-abbrev pub turnOf : Answer → ℕ → List ℕ → Pool → Turn
-turnOf a d b p = record { result = resultOf a d b; pool = p }
+abbrev pub effectOf : Answer → ℕ → List ℕ → Pool → Effect
+effectOf a d b p = record { result = resultOf a d b; pool = p }
 
 -- by the rules of the calls themselves; a peek is a function to bytes, which are none where it shows nothing
-unfoldable pub asideBy : ℕ → Pool → Aside → Turn
-asideBy L p (Commit list n offset bytes) = let r = commit L p list n offset bytes in turnOf (r .said .answer) 0 [] (r .said .pool)
-asideBy L p (CommitPage list n page writing) = let r = commitPage L p list n page writing in turnOf (r .answer) 0 [] (r .pool)
-asideBy L p (Len n) = let r = len L p n in turnOf (r .answer) 0 [] (r .pool)
-asideBy L p (Peek zero n page) = turnOf (Done 0) 0 (peek L p zero n page) p
-asideBy L p (Forecast n offset bytes) = let r = forecast L p n offset bytes in turnOf (r .answer) 0 [] (r .pool)
-asideBy L p (Append n first pages) = let r = appendMapping L p n first pages in turnOf (r .answer) 0 [] (r .pool)
-asideBy L p (Remove n mapping) = let r = removeMapping L p n mapping in turnOf (r .answer) 0 [] (r .pool)
+unfoldable pub asideEffect : ℕ → Pool → Aside → Effect
+asideEffect L p (Commit list n offset bytes) = let r = commit L p list n offset bytes in effectOf (r .said .answer) 0 [] (r .said .pool)
+asideEffect L p (CommitPage list n page writing) = let r = commitPage L p list n page writing in effectOf (r .answer) 0 [] (r .pool)
+asideEffect L p (Len n) = let r = len L p n in effectOf (r .answer) 0 [] (r .pool)
+asideEffect L p (Peek zero n page) = effectOf (Done 0) 0 (peek L p zero n page) p
+asideEffect L p (Forecast n offset bytes) = let r = forecast L p n offset bytes in effectOf (r .answer) 0 [] (r .pool)
+asideEffect L p (Append n first pages) = let r = appendMapping L p n first pages in effectOf (r .answer) 0 [] (r .pool)
+asideEffect L p (Remove n mapping) = let r = removeMapping L p n mapping in effectOf (r .answer) 0 [] (r .pool)
 
-unfoldable pub turnBy : ℕ → Pool → Command → Turn
-turnBy L p (New pages) = let r = new L p pages in turnOf (r .answer) 0 [] (r .pool)
-turnBy L p (Child list n offset bytes) = let r = createChild L p list n offset bytes in turnOf (r .answer) 0 [] (r .pool)
-turnBy L p (Read n offset buf) = let r = read L p n offset buf in turnOf (r .answer) 0 (r .buf) (r .pool)
-turnBy L p (Write list n offset bytes) = let r = write L p list n offset bytes in turnOf (r .said .answer) (r .done) [] (r .said .pool)
-turnBy L p (Also c) = asideBy L p c
+unfoldable pub effect : ℕ → Pool → Command → Effect
+effect L p (New pages) = let r = new L p pages in effectOf (r .answer) 0 [] (r .pool)
+effect L p (Child list n offset bytes) = let r = createChild L p list n offset bytes in effectOf (r .answer) 0 [] (r .pool)
+effect L p (Read n offset buf) = let r = read L p n offset buf in effectOf (r .answer) 0 (r .buf) (r .pool)
+effect L p (Write list n offset bytes) = let r = write L p list n offset bytes in effectOf (r .said .answer) (r .done) [] (r .said .pool)
+effect L p (Also c) = asideEffect L p c
 
 -- the pool after a run
 unfoldable pub after : ℕ → Pool → List Command → Pool
 after L p [] = p
-after L p (c ∷ cs) = after L (turnBy L p c .pool) cs
+after L p (c ∷ cs) = after L (effect L p c .pool) cs
 
 -- its history: each call, and what it gave
 pub record Event : Type 0 where
@@ -80,7 +80,7 @@ eventOf c r = record { command = c; result = r }
 
 unfoldable pub history : ℕ → Pool → List Command → List Event
 history L p [] = []
-history L p (c ∷ cs) = eventOf c (turnBy L p c .result) ∷ history L (turnBy L p c .pool) cs
+history L p (c ∷ cs) = eventOf c (effect L p c .result) ∷ history L (effect L p c .pool) cs
 
 -- a run on a fresh pool, which start made of the tables and the memory lent
 abbrev pub poolAfter : ℕ → Pool → List Command → Pool
