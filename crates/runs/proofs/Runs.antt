@@ -35,11 +35,6 @@ module _ (L : ℕ) where
 
   -- a run and what comes after it
 
-  pub after-joins : (p : Pool) (run rest : List Command) → after L p (run ++ rest) ≡ after L (after L p run) rest
-  unfolding after
-  after-joins p [] rest = refl
-  after-joins p (c ∷ cs) rest = after-joins (effect L p c .pool) cs rest
-
   pub history-from : (p : Pool) (before : List Command) (c : Command) (rest : List Command)
       → history L p (before ++ c ∷ rest)
       ≡ history L p before ++ eventOf c (effect L (after L p before) c .result) ∷ history L (effect L (after L p before) c .pool) rest

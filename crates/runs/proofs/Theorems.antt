@@ -18,7 +18,7 @@ use Rattle.arrays.proofs.Sound.{read-sound, write-sound, commit-sound, page-sou
 use Rattle.runs.specs.Runs.{Aside, Command, effect, asideEffect, history, poolAfter, historyOf}
 use Rattle.runs.specs.Runs.Aside.{Commit, CommitPage, Len, Peek, Forecast, Append, Remove}
 use Rattle.runs.specs.Runs.Command.{New, Child, Read, Write, Also}
-use Rattle.runs.specs.Arrays.{nobody, arrayBy, arraysOf, makes, lives, readArray}
+use Rattle.runs.specs.Arrays.{nobody, arrayBy, arraysOf, lives, readArray}
 use Rattle.runs.specs.Isolated.{paged, Isolated}
 use Rattle.runs.specs.Memory.{TooFew}
 use Rattle.runs.specs.Own.{deeds}
