@@ -32,7 +32,7 @@ use Rattle.runs.specs.Runs.Aside.{Commit, CommitPage, Len, Peek, Forecast, Appe
 use Rattle.runs.specs.Runs.Command.{New, Child, Read, Write, Also}
 use Rattle.runs.specs.Theorems.AnyCall.{Of}
 use Rattle.runs.proofs.Theorems.{keeps-sound}
-use Rattle.cases.specs.Script.{Line, Reply, blot, stepBy, step, Row, repliesBy, repliesIn, Table}
+use Rattle.cases.specs.Script.{Line, Printed, blot, stepBy, step, Row, repliesBy, repliesIn, Table}
 use Rattle.cases.specs.Script.Line.{New as Newly, Child as Cloned, Write as Writes, Read as Reads, Free}
 
 -- a call as its rule has it after the sound test; those that no case makes as they are
@@ -114,7 +114,7 @@ module _ (L : ℕ) where
   quick-replies p s [] = refl
   quick-replies p s (r ∷ rows) =
       let e = line-is p s (r .line) in
-      rw (← e) (ap (λ (rs : List Reply). step L p (r .line) .reply ∷ rs) (quick-replies (step L p (r .line) .pool) (line-sound p s (r .line)) rows))
+      rw (← e) (ap (λ (rs : List Printed). step L p (r .line) .reply ∷ rs) (quick-replies (step L p (r .line) .pool) (line-sound p s (r .line)) rows))
 
   pub quickly : (p : Pool) → sound L p ≡ true → {rows : List Row} → repliesBy (stepBy L (quick L)) p rows ≡ repliesIn rows → Table L p rows
   quickly p s {rows} e = record { answered = quick-replies p s rows ∙ e }

@@ -22,23 +22,23 @@ pub data Line : Type 0 where
   -- no call: how many frames are free
   Free : Line
 
--- document 01's number and value; the bytes that an accepted read gave
-pub record Reply : Type 0 where
+-- what is printed of a call: document 01's number and value, and the bytes that an accepted read gave
+pub record Printed : Type 0 where
   pub code : ℕ
   pub value : ℕ
   pub bytes : List ℕ
 
-abbrev pub says : ℕ → ℕ → Reply
+abbrev pub says : ℕ → ℕ → Printed
 says c v = record { code = c; value = v; bytes = [] }
 
-abbrev pub reads : List ℕ → Reply
+abbrev pub reads : List ℕ → Printed
 reads b = record { code = 0; value = 0; bytes = b }
 
 pub record Step : Type 0 where
-  pub reply : Reply
+  pub reply : Printed
   pub pool : Pool
 
-abbrev pub stepOf : Reply → Pool → Step
+abbrev pub stepOf : Printed → Pool → Step
 stepOf r p = record { reply = r; pool = p }
 
 -- a call gives its answer's value; a write the bytes done, refused or not; a read the bytes, if it is accepted
@@ -48,7 +48,7 @@ byValue t = stepOf (says (codeOf (t .result .answer)) (valueOf (t .result .answe
 abbrev pub byDone : Effect → Step
 byDone t = stepOf (says (codeOf (t .result .answer)) (t .result .done)) (t .pool)
 
-abbrev pub filling : Answer → List ℕ → Reply
+abbrev pub filling : Answer → List ℕ → Printed
 filling (Done v) buf = reads buf
 filling (Refused r) buf = says (codeOf (Refused r)) 0
 
@@ -74,17 +74,17 @@ step L = stepBy L (effect L)
 infix 70 _⇒_
 pub record Row : Type 0 where
   pub line : Line
-  pub reply : Reply
+  pub reply : Printed
 
-abbrev pub _⇒_ : Line → Reply → Row
+abbrev pub _⇒_ : Line → Printed → Row
 l ⇒ r = record { line = l; reply = r }
 
 -- the lines, one after the other, are answered so
-unfoldable pub repliesBy : (Pool → Line → Step) → Pool → List Row → List Reply
+unfoldable pub repliesBy : (Pool → Line → Step) → Pool → List Row → List Printed
 repliesBy step p [] = []
 repliesBy step p (r ∷ rows) = let s = step p (r .line) in s .reply ∷ repliesBy step (s .pool) rows
 
-unfoldable pub repliesIn : List Row → List Reply
+unfoldable pub repliesIn : List Row → List Printed
 repliesIn [] = []
 repliesIn (r ∷ rows) = r .reply ∷ repliesIn rows
 
