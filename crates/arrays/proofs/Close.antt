@@ -33,4 +33,4 @@ module _ (p : Pool) (n first pages : ℕ) (why : Against) (done value : ℕ) (w 
       let x = g d z in
       let h = o .none in
       let s = short-all d o in
-      inr (x .0, record { answer = rw e; short = s; page = d; among = o .among; before = o .before; here = rw add-one (o .here); done = x .1; taken = omega arith })
+      inr (x .0, record { answer = rw e; short = s; page = d; among = o .among; before = o .before; here = rw add-one (o .here); done = x .1; taken = omega arith; none = h })

@@ -20,7 +20,7 @@ use Rattle.arrays.specs.Calls.{ByTests, Called, Page}
 use Rattle.arrays.specs.Calls.Called.{tested, accepted}
 use Rattle.logic.proofs.Laws.{true-not}
 
-done-not : {a : Answer} {v : ℕ} {r : Refusal} → a ≡ Done v → a ≡ Refused r → ⊥
+pub done-not : {a : Answer} {v : ℕ} {r : Refusal} → a ≡ Done v → a ≡ Refused r → ⊥
 done-not e f = let z : _≡_ {A = ℕ} 0 1 = cc in omega arith
 
 stopped-not : {a : Answer} → a ≡ Refused NoMemory → a ≡ Refused Stopped → ⊥
@@ -34,6 +34,10 @@ tests-not why t e f = let q : why ≡ Stopped = cc in absurd (rw q at t)
 module _ {p : Pool} {n first pages value : ℕ} {doneBy : ℕ → ℕ} {r : Outcome Answer} where
   pub refused-short : Granted p n first pages value r ⊎ Short p n first pages doneBy r → r .answer ≡ Refused NoMemory → freeCount (p .used) < needs (p .nodes) (p .pages) n first pages
   refused-short e h = ⊎-elim (λ g. absurd (done-not (g .answer) h)) (λ s. s .short) e
+
+  -- and then all frames are taken
+  pub refused-none : Granted p n first pages value r ⊎ Short p n first pages doneBy r → r .answer ≡ Refused NoMemory → freeCount (r .pool .used) ≡ 0
+  refused-none e h = ⊎-elim (λ g. absurd (done-not (g .answer) h)) (λ s. s .none) e
 
   pub short-refused : Granted p n first pages value r ⊎ Short p n first pages doneBy r → freeCount (p .used) < needs (p .nodes) (p .pages) n first pages → r .answer ≡ Refused NoMemory
   short-refused e h = ⊎-elim (λ g. let q = g .enough in absurd (omega arith)) (λ s. s .answer) e

@@ -46,7 +46,7 @@ module _ (L : ℕ) (A : ℕ → ℕ → ℕ → ℕ) (p : Pool) (P : Private L A
   ends-by K.ZeroFrame w a = inr (inl (record { answer = refl; reading = a .reading; bytes = a .bytes; same = ap (poolWith p) (a .same) }))
   ends-by (K.Refused r) w a = inr (inr (record { answer = ap Denied (a .answer); writing = a .writing; short = a .short; none = none-free (w .used) (a .no-frame) }))
 
-  page-through : Leaf (p .nodes) n → page < nodeOf (p .nodes) n .size
+  pub page-through : Leaf (p .nodes) n → page < nodeOf (p .nodes) n .size
       → Page L A p n page write (committedOutcome p (commitLeaf L (p .nodes) (p .mappings) (workOf (p .pages) (p .used) (p .memory) (toldOf list 0)) n page write))
   page-through leaf low =
       let r = commitLeaf L (p .nodes) (p .mappings) (workIn p (toldOf list 0)) n page write in

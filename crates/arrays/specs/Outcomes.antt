@@ -46,6 +46,7 @@ pub record Short (p : Pool) (n first pages : ℕ) (doneBy : ℕ → ℕ) (r : Ou
   pub here : freeCount (p .used) < needs (p .nodes) (p .pages) n first (page + 1)
   pub done : r .done ≡ doneBy page
   pub taken : r .taken ≡ freeCount (p .used)
+  pub none : freeCount (r .pool .used) ≡ 0
 
 -- a commit changes no array
 pub record Commits (L : ℕ) (A : ℕ → ℕ → ℕ → ℕ) (p : Pool) (n offset len : ℕ) (r : Outcome Answer) : Type 0 where

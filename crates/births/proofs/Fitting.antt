@@ -34,6 +34,9 @@ pages-fit (suc k) a b size p q l =
 pub record Allows (L : ℕ) (r : Node) (offset len : ℕ) : Type 0 where
   pub fits : offset / L + len / L ≤ r .size
   pub unpinned : r .«pin_count» ≡ 0
+  pub from : offset % L ≡ 0
+  pub whole : len % L ≡ 0
+  pub inside : offset + len ≤ r .size * L
 
 why-not : {A : Type 0} {r : R.Refusal} → Why r ≡ Fine → A
 why-not e = let z : _≡_ {A = ℕ} 0 1 = cc in absurd (omega arith)
@@ -43,10 +46,15 @@ allows-by : (L : ℕ) (r : Node) (offset len : ℕ) (a b c : Bool)
     → pick a (pick b (pick c Fine (Why R.the-variants.OutOfRange)) (Why R.the-variants.BadState)) (Why R.the-variants.InvalidArgs) ≡ Fine → Allows L r offset len
 allows-by L r offset len true true true x y z e =
     let w = and-left (alignedOf L offset && alignedOf L len) (leb len (64 * L)) x in
+    let a = eqb-true (offset % L) 0 (and-left (alignedOf L offset) (alignedOf L len) w) in
+    let b = eqb-true (len % L) 0 (and-right (alignedOf L offset) (alignedOf L len) w) in
+    let i = leb-true (offset + len) (r .size * L) z in
     record {
-      fits = pages-fit L offset len (r .size) (eqb-true (offset % L) 0 (and-left (alignedOf L offset) (alignedOf L len) w))
-          (eqb-true (len % L) 0 (and-right (alignedOf L offset) (alignedOf L len) w)) (leb-true (offset + len) (r .size * L) z);
+      fits = pages-fit L offset len (r .size) a b i;
       unpinned = eqb-true (r .«pin_count») 0 (and-right (cachedOf r) (eqb (r .«pin_count») 0) y);
+      from = a;
+      whole = b;
+      inside = i;
     }
 allows-by L r offset len true true false x y z e = why-not e
 allows-by L r offset len true false c x y z e = why-not e

@@ -85,6 +85,7 @@ free-tree N f =
       window-size = λ n. rw (f n) (omega arith);
       sizes = λ n. rw (f n) (omega arith);
       policies = λ n. rw (f n) (omega arith);
+      counts = λ n. rw (f n) (omega arith);
       kinds = λ n. rw (f n) (omega arith);
       blank = λ n h. f n;
     }

@@ -152,6 +152,9 @@ module _ (N N′ : List ℕ) (n x c first pages next : ℕ) (D : Cloned N N′ n
             (λ o. let r = D .at-old m o in rw (r .start, r .limit, r .size) (t .window-size m));
         sizes = λ m. each N N′ n x c first pages next D (λ r. r .size ≤ 64) m z z (omega arith) (λ o. rw (D .at-old m o .size) (t .sizes m));
         policies = λ m. each N N′ n x c first pages next D (λ r. r .«cache_policy» ≤ 3) m (omega arith) (t .policies n) (omega arith) (λ o. rw (D .at-old m o .policy) (t .policies m));
+        counts = λ m.
+            each N N′ n x c first pages next D (λ r. r .«pin_count» ≤ 4294967295) m (t .counts n) (t .counts n) (omega arith)
+            (λ o. rw (D .at-old m o .pins) (t .counts m));
         kinds = λ m. each N N′ n x c first pages next D (λ r. r .kind ≤ 3) m (omega arith) (t .kinds n) (omega arith) (λ o. rw (D .at-old m o .kind) (t .kinds m));
         blank = λ m. blank-by m (which n x c m);
       }

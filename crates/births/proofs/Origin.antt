@@ -95,6 +95,7 @@ module _ (N N′ : List ℕ) (next i size : ℕ) (s : Sprung N N′ next i size)
         window-size = λ n. each (λ r. r .«parent_limit» ≤ r .«parent_offset» + r .size) n (omega arith) (λ ne. t .window-size n);
         sizes = λ n. each (λ r. r .size ≤ 64) n (s .small) (λ ne. t .sizes n);
         policies = λ n. each (λ r. r .«cache_policy» ≤ 3) n (omega arith) (λ ne. t .policies n);
+        counts = λ n. each (λ r. r .«pin_count» ≤ 4294967295) n (omega arith) (λ ne. t .counts n);
         kinds = λ n. each (λ r. r .kind ≤ 3) n (omega arith) (λ ne. t .kinds n);
         blank = λ n. each (λ r. r .kind ≡ 0 → r ≡ freeNode) n (λ z. absurd (omega arith)) (λ ne. t .blank n);
       }

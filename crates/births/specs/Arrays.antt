@@ -1,4 +1,4 @@
--- The arrays of a pool's objects after an object was born.
+-- The arrays of a pool's objects after an object was born, in pages. Pages from an object's size on are nobody's: `Private` says nothing of them.
 use Prim.Native.Nat.{ℕ, _+_}
 use lib.Dec.{eqb}
 use Rattle.logic.specs.Pick.{pick}

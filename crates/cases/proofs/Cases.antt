@@ -9,12 +9,12 @@ use Rattle.tables.specs.Pool.{Pool, poolOf}
 use Rattle.sound.specs.Sound.{lengthsOk, sound}
 use Rattle.pool.specs.Calls.{start, freshPool}
 use Rattle.births.proofs.Calls.{start-done}
-use Rattle.cases.specs.Script.{says, reads, Row, _⇒_, Table, repliesBy, repliesIn}
+use Rattle.cases.specs.Script.{says, reads, Row, _⇒_, Table, stepBy, repliesBy, repliesIn}
 use Rattle.cases.specs.Script.Line.{New, Child, Write, Read, Free}
 use Rattle.cases.proofs.Quick.{quick, quickly}
 
 -- tables and memory full of sevens, lent for so many frames; a pool started on them, of six frames and of one
-lent : ℕ → Pool
+unfoldable pub lent : ℕ → Pool
 lent frames = poolOf (replicate 1024 7) (replicate 4096 7) (replicate frames 7) (replicate 256 7) (replicate 4 7) (replicate (frames * 4) 7)
 
 pub six : Pool
@@ -40,7 +40,7 @@ P1 : Table 4 six (
     ∷ Read 0 0 4 ⇒ reads (0 ∷ 0 ∷ 0 ∷ 0 ∷ [])
     ∷ Free ⇒ says 0 6
     ∷ [])
-unfolding six repliesBy repliesIn quick
+unfolding six repliesBy repliesIn stepBy quick
 P1 = quickly 4 six six-sound refl
 
 -- P2 the script of cowlines, up to its first zero
@@ -52,7 +52,7 @@ P2 : Table 4 six (
     ∷ Write 0 0 2 4 ⇒ says 0 4
     ∷ Read 3 0 4 ⇒ reads (1 ∷ 1 ∷ 1 ∷ 1 ∷ [])
     ∷ [])
-unfolding six repliesBy repliesIn quick
+unfolding six repliesBy repliesIn stepBy quick
 P2 = quickly 4 six six-sound refl
 
 -- P3 R written, child X, X written: R unchanged
@@ -64,7 +64,7 @@ P3 : Table 4 six (
     ∷ Read 0 0 4 ⇒ reads (1 ∷ 1 ∷ 1 ∷ 1 ∷ [])
     ∷ Read 1 0 4 ⇒ reads (2 ∷ 2 ∷ 2 ∷ 2 ∷ [])
     ∷ [])
-unfolding six repliesBy repliesIn quick
+unfolding six repliesBy repliesIn stepBy quick
 P3 = quickly 4 six six-sound refl
 
 -- P8 first write with one frame in all: OK; a child's write then: NO_MEMORY, done 0
@@ -74,12 +74,12 @@ P8 : Table 4 one (
     ∷ Child 0 0 1 ⇒ says 0 1
     ∷ Write 1 0 2 4 ⇒ says 4 0
     ∷ [])
-unfolding one repliesBy repliesIn quick
+unfolding one repliesBy repliesIn stepBy quick
 P8 = quickly 4 one one-sound refl
 
 -- 64 pages OK, 65 INVALID_ARGS
 limits : Table 4 six (New 64 ⇒ says 0 0 ∷ New 65 ⇒ says 3 0 ∷ [])
-unfolding six repliesBy repliesIn quick
+unfolding six repliesBy repliesIn stepBy quick
 limits = quickly 4 six six-sound refl
 
 -- the 32nd child of one object: NO_NODE
@@ -94,5 +94,5 @@ children : Table 4 six (
     ∷ kid 49 ∷ kid 51 ∷ kid 53 ∷ kid 55 ∷ kid 57 ∷ kid 59 ∷ kid 61
     ∷ Child 0 0 1 ⇒ says 9 0
     ∷ [])
-unfolding six repliesBy repliesIn quick
+unfolding six repliesBy repliesIn stepBy quick
 children = quickly 4 six six-sound refl

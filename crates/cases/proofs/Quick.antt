@@ -1,75 +1,120 @@
--- Lines on a sound pool, without its test at each call: calls keep the pool sound, and what is left computes. Assumes nothing.
+-- Runs on a sound pool, without its test at each call: calls keep the pool sound, and what is left computes. Assumes nothing.
 use mathlib.Core.Path.{_≡_, refl, ap, _∙_}
-use mathlib.Core.Bool.{true, _&&_}
+use mathlib.Core.Bool.{true}
 use mathlib.Core.List.{List, [], _∷_}
 use Prim.Native.Nat.{ℕ, _*_}
-use lib.Dec.{leb, ltb}
+use lib.Dec.{leb}
 use lib.ListN.{replicate}
 use Rattle.logic.specs.Pick.{pick}
-use Rattle.logic.specs.Below.{sumBelow, firstFrom, copied, zeroed}
+use Rattle.logic.specs.Below.{allBelow, sumBelow, firstFrom, copied, zeroed}
 use Rattle.entry.specs.Entry.{tagOf, stateOf, slotOf, entryWord}
-use Rattle.node.specs.Node.{leafOf, outOf, sideOf, cachedOf, containsOf}
+use Rattle.node.specs.Node.{outOf, sideOf}
 use Rattle.blocks.specs.Blocks.{pagesOf, blockEnd, nextBy, nextOf, countOf}
 use Rattle.tables.specs.Pool.{Pool}
 use Rattle.tables.specs.Tables.{wordOf, withWord, recordOf, nodeOf, withFive, withNode, entryOf, slotAt, withEntry, withState, withoutState, rowMoved, mappingOf, numberOf, isFree, freeNodeIn, freeNodeFrom}
 use Rattle.frames.specs.Frames.{idleOf, oneIdle, freeCount, freeFrameIn, pastedAt, blankAt, clearedAt, copiedAt}
-use Rattle.outcome.specs.Told.{putNotice}
-use Rattle.notices.specs.Notices.{overlapOf, tellPlace, tellObject, childOf, rangeChange}
+use Rattle.notices.specs.Notices.{putNotice, overlapOf, tellPlace, tellObject, childOf, rangeChange}
 use Rattle.lookup.specs.Lookup.{asksOf, cleared, freshBy, fresh, partBy, part, otherTold, shareOr, hiddenStep, leafTold, settleBy, settle, handedBy, enter, look}
 use Rattle.sound.specs.Sound.{sound}
-use Rattle.outcome.specs.declared.answer.Refusal.the-variants.{InvalidArgs, NoObject}
-use Rattle.pool.specs.Calls.{leafAt, newLeaf, new, entered, onEntered, onObject}
-use Rattle.pool.specs.declared.entering.Entered.{Entered}
-use Rattle.pool.specs.declared.entering.Entered.the-variants.{At, Refused}
-use Rattle.outcome.specs.Room.{liveOne, liveCount, roomOf}
-use Rattle.outcome.specs.Outcome.{refused}
-use Rattle.child.specs.Child.{relinked, bornNodes, born, againstChild, withBoth, withChild, numberChild, childAt}
+use Rattle.pool.specs.declared.answer.Refusal.{Refusal}
+use Rattle.pool.specs.declared.answer.Refusal.the-variants.{InvalidArgs}
+use Rattle.pool.specs.Calls.{callOf, refused, leafAt, newLeaf, new, findObject, atNode, onNode, lenOf}
+use Rattle.commit.specs.Noted.{refusedOf, liveOne, liveCount, roomOf}
+use Rattle.child.specs.Child.{relinked, bornNodes, born, againstChild, withBoth, withChild, numbered, childAt}
 use Rattle.page.specs.Each.{onward, each}
 use Rattle.page.specs.Pages.{storedBy, wrotePage, writeBy, writePage, fetchedBy, lookRead, readThrough, readBy, readPage}
-use Rattle.ranges.specs.Ranges.{rangedBy, againstWriting, writeRange, written, writeThrough, writeAt, againstReading, readRange, filled, readAt}
-use Rattle.births.proofs.Calls.{new-sound, child-sound}
-use Rattle.arrays.proofs.Sound.{read-sound, write-sound}
-use Rattle.cases.specs.Script.{Line, Result, Step, stepOf, says, byOutcome, byFilled, blot, step, Row, repliesBy, repliesIn, Table}
-use Rattle.cases.specs.Script.Line.{New, Child, Write, Read, Free}
+use Rattle.ranges.specs.Ranges.{insideOf, cachedOf, rangedBy, againstWriting, writeRange, written, writeThrough, writeAt, refusedRange, againstReading, readRange, filled, readAt, unfilled}
+use Rattle.mappings.specs.Mappings.{isFreeAt, freePlace, notAt, unused, freeNumber, withMapping, append}
+use Rattle.mappings.specs.Mappings as M
+use Rattle.mapped.specs.Mapped.{shownOf, appendBy, appendAt}
+use Rattle.runs.specs.Runs.{Aside, Command, Effect, effectOf, asideEffect, effect, Event, eventOf, history}
+use Rattle.runs.specs.Runs.Aside.{Commit, CommitPage, Len, Peek, Forecast, Append, Remove}
+use Rattle.runs.specs.Runs.Command.{New, Child, Read, Write, Also}
+use Rattle.runs.specs.Theorems.AnyCall.{Of}
+use Rattle.runs.proofs.Theorems.{keeps-sound}
+use Rattle.cases.specs.Script.{Line, Printed, blot, stepBy, step, Row, repliesBy, repliesIn, Table}
+use Rattle.cases.specs.Script.Line.{New as Newly, Child as Cloned, Write as Writes, Read as Reads, Free}
 
--- an object entered, after the sound test
-abbrev located : Pool → ℕ → Entered
-located p object = pick (ltb object 64 && leafOf (nodeOf (p .nodes) object)) (At object) (Refused NoObject)
+-- a call as its rule has it after the sound test; those that no case makes as they are
+abbrev atObject : {A : Type 0} → Pool → ℕ → (Refusal → A) → (ℕ → A) → A
+atObject p object refuse does = atNode refuse does (findObject (p .nodes) object)
 
--- a call as its rule has it after the sound test
-unfoldable pub quick : ℕ → Pool → Line → Step
-unfolding leafAt newLeaf onEntered childAt againstChild numberChild withChild withBoth born bornNodes relinked roomOf liveCount liveOne writeAt againstWriting writeThrough written writeRange writePage writeBy wrotePage storedBy rangedBy readAt againstReading readRange readPage readBy lookRead readThrough fetchedBy filled containsOf cachedOf each onward pagesOf blockEnd nextBy nextOf countOf look enter handedBy settle settleBy leafTold hiddenStep shareOr otherTold part partBy fresh freshBy cleared asksOf rangeChange childOf tellObject tellPlace overlapOf putNotice freeCount oneIdle idleOf freeFrameIn pastedAt blankAt clearedAt copiedAt nodeOf recordOf wordOf withNode withFive withWord entryOf slotAt withEntry withState withoutState rowMoved mappingOf numberOf isFree freeNodeIn freeNodeFrom tagOf stateOf slotOf entryWord outOf sideOf sumBelow firstFrom copied zeroed
-quick L p (New pages) = byOutcome (pick (leb pages 64) (newLeaf p pages) (refused p [] [] InvalidArgs))
-quick L p (Child object first count) =
-    byOutcome (onEntered (refused p [] []) (λ n. childAt L p [] n (first * L) (count * L)) (located p object))
-quick L p (Write object offset byte len) =
-    byOutcome (onEntered (refused p [] []) (λ n. writeAt L p [] n offset (replicate len byte)) (located p object))
-quick L p (Read object offset len) = byFilled (onEntered (refused p [] (blot len)) (λ n. readAt L p n offset (blot len)) (located p object))
-quick L p Free = stepOf (says 0 (freeCount (p .used))) p
+unfoldable pub quickAside : ℕ → Pool → Aside → Effect
+unfolding atNode findObject appendAt appendBy shownOf append M.appendBy freePlace isFreeAt freeNumber unused notAt withMapping lenOf nodeOf recordOf wordOf mappingOf numberOf firstFrom allBelow
+quickAside L p (Len n) = let r = atObject p n (λ r. refused r p) (λ m. callOf (lenOf L (p .nodes) m) p) in effectOf (r .answer) 0 [] (r .pool)
+quickAside L p (Append n first pages) = let r = atObject p n (λ r. refused r p) (λ m. appendAt p m first pages) in effectOf (r .answer) 0 [] (r .pool)
+quickAside L p (Commit list n offset bytes) = asideEffect L p (Commit list n offset bytes)
+quickAside L p (CommitPage list n page writing) = asideEffect L p (CommitPage list n page writing)
+quickAside L p (Peek zero n page) = asideEffect L p (Peek zero n page)
+quickAside L p (Forecast n offset bytes) = asideEffect L p (Forecast n offset bytes)
+quickAside L p (Remove n mapping) = asideEffect L p (Remove n mapping)
+
+unfoldable pub quick : ℕ → Pool → Command → Effect
+unfolding leafAt newLeaf atNode findObject childAt againstChild numbered withChild withBoth born bornNodes relinked roomOf liveCount liveOne writeAt againstWriting writeThrough written writeRange writePage writeBy wrotePage storedBy rangedBy readAt againstReading readRange readPage readBy lookRead readThrough fetchedBy filled insideOf cachedOf each onward pagesOf blockEnd nextBy nextOf countOf look enter handedBy settle settleBy leafTold hiddenStep shareOr otherTold part partBy fresh freshBy cleared asksOf rangeChange childOf tellObject tellPlace overlapOf putNotice freeCount oneIdle idleOf freeFrameIn pastedAt blankAt clearedAt copiedAt nodeOf recordOf wordOf withNode withFive withWord entryOf slotAt withEntry withState withoutState rowMoved mappingOf numberOf isFree freeNodeIn freeNodeFrom tagOf stateOf slotOf entryWord outOf sideOf sumBelow firstFrom copied zeroed
+quick L p (New pages) = let r = pick (leb pages 64) (newLeaf p pages) (refused InvalidArgs p) in effectOf (r .answer) 0 [] (r .pool)
+quick L p (Child list n offset bytes) =
+    let r = atObject p n (refusedOf p list) (λ m. childAt L p list m offset bytes) in effectOf (r .answer) 0 [] (r .pool)
+quick L p (Write list n offset bytes) =
+    let r = atObject p n (refusedRange p list) (λ m. writeAt L p list m offset bytes) in effectOf (r .said .answer) (r .done) [] (r .said .pool)
+quick L p (Read n offset buf) = let r = atObject p n (unfilled p buf) (λ m. readAt L p m offset buf) in effectOf (r .answer) 0 (r .buf) (r .pool)
+quick L p (Also c) = quickAside L p c
 
 module _ (L : ℕ) where
-  quick-is : (p : Pool) → sound L p ≡ true → (l : Line) → step L p l ≡ quick L p l
-  unfolding step quick new onObject entered
+  aside-is : (p : Pool) → sound L p ≡ true → (c : Aside) → asideEffect L p c ≡ quickAside L p c
+  unfolding asideEffect quickAside onNode
+  aside-is p s (Len n) = rw s
+  aside-is p s (Append n first pages) = rw s
+  aside-is p s (Commit list n offset bytes) = refl
+  aside-is p s (CommitPage list n page writing) = refl
+  aside-is p s (Peek zero n page) = refl
+  aside-is p s (Forecast n offset bytes) = refl
+  aside-is p s (Remove n mapping) = refl
+
+  quick-is : (p : Pool) → sound L p ≡ true → (c : Command) → effect L p c ≡ quick L p c
+  unfolding effect quick new onNode
   quick-is p s (New pages) = rw s
-  quick-is p s (Child object first count) = rw s
-  quick-is p s (Write object offset byte len) = rw s
-  quick-is p s (Read object offset len) = rw s
-  quick-is p s Free = refl
+  quick-is p s (Child list n offset bytes) = rw s
+  quick-is p s (Write list n offset bytes) = rw s
+  quick-is p s (Read n offset buf) = rw s
+  quick-is p s (Also c) = aside-is p s c
 
-  step-sound : (p : Pool) → sound L p ≡ true → (l : Line) → sound L (step L p l .pool) ≡ true
-  unfolding step
-  step-sound p s (New pages) = new-sound L p s pages
-  step-sound p s (Child object first count) = child-sound L p s [] object (first * L) (count * L)
-  step-sound p s (Write object offset byte len) = write-sound L p s [] object offset (replicate len byte)
-  step-sound p s (Read object offset len) = read-sound L p s object offset (blot len)
-  step-sound p s Free = s
+  -- histories
 
-  quick-replies : (p : Pool) → sound L p ≡ true → (rows : List Row) → repliesBy (step L) p rows ≡ repliesBy (quick L) p rows
+  unfoldable pub quickly-goes : Pool → List Command → List Event
+  quickly-goes p [] = []
+  quickly-goes p (c ∷ cs) = let t = quick L p c in eventOf c (t .result) ∷ quickly-goes (t .pool) cs
+
+  pub quick-history : (p : Pool) → sound L p ≡ true → (run : List Command) → history L p run ≡ quickly-goes p run
+  unfolding history quickly-goes
+  quick-history p s [] = refl
+  quick-history p s (c ∷ cs) =
+      let e = quick-is p s c in
+      rw (← e) (ap (λ (es : List Event). eventOf c (effect L p c .result) ∷ es) (quick-history (effect L p c .pool) (keeps-sound L p s (Of c)) cs))
+
+  -- lines
+
+  line-is : (p : Pool) → sound L p ≡ true → (l : Line) → step L p l ≡ stepBy L (quick L) p l
+  unfolding stepBy
+  line-is p s (Newly pages) = rw (quick-is p s (New pages))
+  line-is p s (Cloned object first count) = rw (quick-is p s (Child [] object (first * L) (count * L)))
+  line-is p s (Writes object offset byte len) = rw (quick-is p s (Write [] object offset (replicate len byte)))
+  line-is p s (Reads object offset len) = rw (quick-is p s (Read object offset (blot len)))
+  line-is p s Free = refl
+
+  line-sound : (p : Pool) → sound L p ≡ true → (l : Line) → sound L (step L p l .pool) ≡ true
+  unfolding stepBy
+  line-sound p s (Newly pages) = keeps-sound L p s (Of (New pages))
+  line-sound p s (Cloned object first count) = keeps-sound L p s (Of (Child [] object (first * L) (count * L)))
+  line-sound p s (Writes object offset byte len) = keeps-sound L p s (Of (Write [] object offset (replicate len byte)))
+  line-sound p s (Reads object offset len) = keeps-sound L p s (Of (Read object offset (blot len)))
+  line-sound p s Free = s
+
+  quick-replies : (p : Pool) → sound L p ≡ true → (rows : List Row) → repliesBy (step L) p rows ≡ repliesBy (stepBy L (quick L)) p rows
   unfolding repliesBy
   quick-replies p s [] = refl
   quick-replies p s (r ∷ rows) =
-      let e = quick-is p s (r .line) in
-      rw (← e) (ap (λ (rs : List Result). step L p (r .line) .reply ∷ rs) (quick-replies (step L p (r .line) .pool) (step-sound p s (r .line)) rows))
+      let e = line-is p s (r .line) in
+      rw (← e) (ap (λ (rs : List Printed). step L p (r .line) .reply ∷ rs) (quick-replies (step L p (r .line) .pool) (line-sound p s (r .line)) rows))
 
-  pub quickly : (p : Pool) → sound L p ≡ true → {rows : List Row} → repliesBy (quick L) p rows ≡ repliesIn rows → Table L p rows
+  pub quickly : (p : Pool) → sound L p ≡ true → {rows : List Row} → repliesBy (stepBy L (quick L)) p rows ≡ repliesIn rows → Table L p rows
   quickly p s {rows} e = record { answered = quick-replies p s rows ∙ e }

@@ -6,14 +6,11 @@ use Prim.Native.Nat.{ℕ, _*_}
 use lib.ListN.{replicate}
 use Rattle.tables.specs.Pool.{Pool}
 use Rattle.frames.specs.Frames.{freeCount}
-use Rattle.outcome.specs.declared.answer.Answer.{Answer}
-use Rattle.outcome.specs.declared.answer.Answer.the-variants.{Done, Refused}
-use Rattle.outcome.specs.Outcome.{Outcome}
-use Rattle.outcome.specs.Answers.{codeOf, valueOf}
-use Rattle.outcome.specs.Outcome.{refused}
-use Rattle.pool.specs.Calls.{new}
-use Rattle.child.specs.Child.{createChild}
-use Rattle.ranges.specs.Ranges.{read, write}
+use Rattle.pool.specs.declared.answer.Answer.{Answer}
+use Rattle.pool.specs.declared.answer.Answer.the-variants.{Done, Refused}
+use Rattle.pool.specs.Answers.{codeOf, valueOf}
+use Rattle.runs.specs.Runs.{Command, Effect, effect}
+use Rattle.runs.specs.Runs.Command.{New as Newly, Child as Cloned, Read as Reads, Write as Writes}
 
 pub data Line : Type 0 where
   New : (pages : ℕ) → Line
@@ -25,62 +22,69 @@ pub data Line : Type 0 where
   -- no call: how many frames are free
   Free : Line
 
--- document 01's number and value; the bytes that an accepted read gave
-pub record Result : Type 0 where
+-- what is printed of a call: document 01's number and value, and the bytes that an accepted read gave
+pub record Printed : Type 0 where
   pub code : ℕ
   pub value : ℕ
   pub bytes : List ℕ
 
-abbrev pub says : ℕ → ℕ → Result
+abbrev pub says : ℕ → ℕ → Printed
 says c v = record { code = c; value = v; bytes = [] }
 
-abbrev pub reads : List ℕ → Result
+abbrev pub reads : List ℕ → Printed
 reads b = record { code = 0; value = 0; bytes = b }
 
 pub record Step : Type 0 where
-  pub reply : Result
+  pub reply : Printed
   pub pool : Pool
 
-abbrev pub stepOf : Result → Pool → Step
+abbrev pub stepOf : Printed → Pool → Step
 stepOf r p = record { reply = r; pool = p }
 
--- a call's answer; a refused write gives the bytes done
-abbrev pub byOutcome : Outcome Answer → Step
-byOutcome o = stepOf (says (codeOf (o .answer)) (valueOf (o .answer) (o .done))) (o .pool)
+-- a call gives its answer's value; a write the bytes done, refused or not; a read the bytes, if it is accepted
+abbrev pub byValue : Effect → Step
+byValue t = stepOf (says (codeOf (t .result .answer)) (valueOf (t .result .answer))) (t .pool)
 
-abbrev pub filling : Answer → List ℕ → Result
+abbrev pub byDone : Effect → Step
+byDone t = stepOf (says (codeOf (t .result .answer)) (t .result .done)) (t .pool)
+
+abbrev pub filling : Answer → List ℕ → Printed
 filling (Done v) buf = reads buf
 filling (Refused r) buf = says (codeOf (Refused r)) 0
 
-abbrev pub byFilled : Outcome Answer → Step
-byFilled f = stepOf (filling (f .answer) (f .buf)) (f .pool)
+abbrev pub byBytes : Effect → Step
+byBytes t = stepOf (filling (t .result .answer) (t .result .buf)) (t .pool)
 
 -- what a read's buffer holds before
 abbrev pub blot : ℕ → List ℕ
 blot len = replicate len 255
 
-unfoldable pub step : ℕ → Pool → Line → Step
-step L p (New pages) = byOutcome (new L p pages)
-step L p (Child object first count) = byOutcome (createChild L p [] object (first * L) (count * L))
-step L p (Write object offset byte len) = byOutcome (write L p [] object offset (replicate len byte))
-step L p (Read object offset len) = byFilled (read L p object offset (blot len))
-step L p Free = stepOf (says 0 (freeCount (p .used))) p
+-- a line, where `does` says what calls give
+unfoldable pub stepBy : ℕ → (Pool → Command → Effect) → Pool → Line → Step
+stepBy L does p (New pages) = byValue (does p (Newly pages))
+stepBy L does p (Child object first count) = byValue (does p (Cloned [] object (first * L) (count * L)))
+stepBy L does p (Write object offset byte len) = byDone (does p (Writes [] object offset (replicate len byte)))
+stepBy L does p (Read object offset len) = byBytes (does p (Reads object offset (blot len)))
+stepBy L does p Free = stepOf (says 0 (freeCount (p .used))) p
+
+abbrev pub step : ℕ → Pool → Line → Step
+step L = stepBy L (effect L)
 
 -- a line with its answer beside it
 infix 70 _⇒_
 pub record Row : Type 0 where
   pub line : Line
-  pub reply : Result
+  pub reply : Printed
 
-abbrev pub _⇒_ : Line → Result → Row
+abbrev pub _⇒_ : Line → Printed → Row
 l ⇒ r = record { line = l; reply = r }
 
 -- the lines, one after the other, are answered so
-unfoldable pub repliesBy : (Pool → Line → Step) → Pool → List Row → List Result
+unfoldable pub repliesBy : (Pool → Line → Step) → Pool → List Row → List Printed
 repliesBy step p [] = []
 repliesBy step p (r ∷ rows) = let s = step p (r .line) in s .reply ∷ repliesBy step (s .pool) rows
 
-unfoldable pub repliesIn : List Row → List Result
+unfoldable pub repliesIn : List Row → List Printed
 repliesIn [] = []
 repliesIn (r ∷ rows) = r .reply ∷ repliesIn rows
 

@@ -68,55 +68,57 @@ answers-done short e = rw e tt
 
 -- new and create_child
 
-leaf-answers : (p : Pool) (size : ℕ) (f : Found) → Answers ⊥ (leafAt p size f .answer)
+leaf-answers : (short : Type 0) (p : Pool) (size : ℕ) (f : Found) → Answers short (leafAt p size f .answer)
 unfolding leafAt
-leaf-answers p size (At i) = tt
-leaf-answers p size Nothing = tt
+leaf-answers short p size (At i) = tt
+leaf-answers short p size Nothing = tt
 
-pub new-answers : (L : ℕ) (p : Pool) → Sound L p → (size : ℕ) → Answers ⊥ (new L p size .answer)
+pub new-answers : (short : Type 0) (L : ℕ) (p : Pool) → Sound L p → (size : ℕ) → Answers short (new L p size .answer)
 unfolding new newLeaf
-new-answers L p S size = rw (facts-sound L p S) (by (leb size 64) (leb (getD (p .head) 0 0) 16777215))
+new-answers short L p S size = rw (facts-sound L p S) (by (leb size 64) (leb (getD (p .head) 0 0) 16777215))
   where
-    by : (a b : Bool) → Answers ⊥ (pick a (pick b (leafAt p size (freeNodeIn (p .nodes))) (refused NoNode p)) (refused InvalidArgs p) .answer)
-    by true true = leaf-answers p size (freeNodeIn (p .nodes))
+    by : (a b : Bool) → Answers short (pick a (pick b (leafAt p size (freeNodeIn (p .nodes))) (refused NoNode p)) (refused InvalidArgs p) .answer)
+    by true true = leaf-answers short p size (freeNodeIn (p .nodes))
     by true false = tt
     by false b = tt
 
-module _ (p : Pool) (list : List ℕ) (n first pages : ℕ) where
-  both-answers : (c : ℕ) (f : Found) → Answers ⊥ (withBoth p list n first pages c f .answer)
+module _ (short : Type 0) (p : Pool) (list : List ℕ) (n first pages : ℕ) where
+  both-answers : (c : ℕ) (f : Found) → Answers short (withBoth p list n first pages c f .answer)
   unfolding withBoth born
   both-answers c (At x) = by (roomOf (p .mappings) list 1)
     where
-      by : (b : Bool) → Answers ⊥ (pick b (born p list n c x first pages) (refusedOf p list NoRoom) .answer)
+      by : (b : Bool) → Answers short (pick b (born p list n c x first pages) (refusedOf p list NoRoom) .answer)
       by true = tt
       by false = tt
   both-answers c Nothing = tt
 
-  child-by : (f : Found) → Answers ⊥ (withChild p list n first pages f .answer)
+  child-by : (f : Found) → Answers short (withChild p list n first pages f .answer)
   unfolding withChild
   child-by (At c) = both-answers c (freeNodeFrom (p .nodes) (c + 1))
   child-by Nothing = tt
 
-  numbered-answers : Answers ⊥ (numbered p list n first pages .answer)
+  numbered-answers : Answers short (numbered p list n first pages .answer)
   unfolding numbered
   numbered-answers = by (leb (getD (p .head) 0 0) 16777215)
     where
-      by : (b : Bool) → Answers ⊥ (pick b (withChild p list n first pages (freeNodeIn (p .nodes))) (refusedOf p list NoNode) .answer)
+      by : (b : Bool) → Answers short (pick b (withChild p list n first pages (freeNodeIn (p .nodes))) (refusedOf p list NoNode) .answer)
       by true = child-by (freeNodeIn (p .nodes))
       by false = tt
 
-module _ (L : ℕ) (p : Pool) (list : List ℕ) (n offset len : ℕ) where
-  tests-answer : Answers ⊥ (childAt L p list n offset len .answer)
+module _ (short : Type 0) (L : ℕ) (p : Pool) (list : List ℕ) (n offset len : ℕ) where
+  tests-answer : Answers short (childAt L p list n offset len .answer)
   unfolding childAt againstChild
   tests-answer =
-      by (alignedOf L offset && alignedOf L len && leb len (64 * L)) (eqb (nodeOf (p .nodes) n .«cache_policy») 0 && eqb (nodeOf (p .nodes) n .«pin_count») 0)
+      by (alignedOf L offset && alignedOf L len && leb len (64 * L))
+      (eqb (nodeOf (p .nodes) n .«cache_policy») 0 && eqb (nodeOf (p .nodes) n .«pin_count») 0)
       (leb (offset + len) (nodeOf (p .nodes) n .size * L))
     where
-      by : (a b c : Bool) → Answers ⊥ (unless (pick a (pick b (pick c Fine (Why OutOfRange)) (Why BadState)) (Why InvalidArgs)) (refusedOf p list) (numbered p list n (offset / L) (len / L)) .answer)
-      by true true true = numbered-answers p list n (offset / L) (len / L)
+      by : (a b c : Bool)
+          → Answers short (unless (pick a (pick b (pick c Fine (Why OutOfRange)) (Why BadState)) (Why InvalidArgs)) (refusedOf p list) (numbered p list n (offset / L) (len / L)) .answer)
+      by true true true = numbered-answers short p list n (offset / L) (len / L)
       by true true false = tt
       by true false c = tt
       by false b c = tt
 
-  pub child-answers : Sound L p → Answers ⊥ (createChild L p list n offset len .answer)
-  child-answers S = on-leaf (refusedOf p list) (λ m. childAt L p list m offset len) L p S n (λ s. Answers ⊥ (s .answer)) tt (λ leaf. tests-answer)
+  pub child-answers : Sound L p → Answers short (createChild L p list n offset len .answer)
+  child-answers S = on-leaf (refusedOf p list) (λ m. childAt L p list m offset len) L p S n (λ s. Answers short (s .answer)) tt (λ leaf. tests-answer)

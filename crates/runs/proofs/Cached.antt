@@ -18,7 +18,6 @@ use Rattle.outcome.specs.declared.answer.Refusal.the-variants.{InvalidArgs, Bad
 use Rattle.pool.specs.Calls.{refused, freshPool, start, leafAt, newLeaf, new}
 use Rattle.commit.specs.Noted.{Said, refusedOf}
 use Rattle.child.specs.Child.{born, againstChild, numbered, childAt, createChild}
-use Rattle.isolation.specs.Private.{Private}
 use Rattle.births.proofs.Words.{node-same, node-away}
 use Rattle.births.proofs.First.{found-free}
 use Rattle.births.proofs.Fresh.{zero-node}
@@ -27,12 +26,14 @@ use Rattle.births.proofs.Written.{Granted}
 use Rattle.births.proofs.Fitting.{allows}
 use Rattle.births.proofs.Child.{cloned}
 use Rattle.births.proofs.Bear.{numbered-by}
-use Rattle.runs.specs.Runs.{Call, stepBy, after}
-use Rattle.runs.specs.Runs.Call.{New, Child, Read, Write, Commit}
-use Rattle.runs.specs.Arrays.{Arrays}
+use Rattle.runs.specs.Runs.{Command, effect, after}
+use Rattle.runs.specs.Runs.Command.{New, Child, Read, Write, Also}
+use Rattle.runs.specs.Arrays.{Arrays, arrayBy}
+use Rattle.runs.specs.Isolated.{paged, Isolated}
 use Rattle.runs.proofs.Objects.{on-leaf, tested}
-use Rattle.runs.proofs.Ranges.{read-nodes, write-nodes, commit-nodes}
-use Rattle.runs.proofs.Steps.{arraysBy, step-private}
+use Rattle.runs.proofs.Ranges.{read-nodes, write-nodes}
+use Rattle.runs.proofs.Asides.{aside-still}
+use Rattle.runs.proofs.Steps.{step-isolated}
 
 -- of every record, live or free
 abbrev pub Cached : List ℕ → Type 0
@@ -57,7 +58,8 @@ module _ (L : ℕ) (p : Pool) (S : Sound L p) (C : Cached (p .nodes)) where
   unfolding new newLeaf
   new-cached size = by (sound L p) (leb size 64) (leb (getD (p .head) 0 0) 16777215)
     where
-      by : (a b c : Bool) → Cached (pick a (pick b (pick c (leafAt p size (freeNodeIn (p .nodes))) (refused NoNode p)) (refused InvalidArgs p)) (refused BadPool p) .pool .nodes)
+      by : (a b c : Bool)
+          → Cached (pick a (pick b (pick c (leafAt p size (freeNodeIn (p .nodes))) (refused NoNode p)) (refused InvalidArgs p)) (refused BadPool p) .pool .nodes)
       by true true true = leaf-cached size (freeNodeIn (p .nodes)) refl
       by true true false = C
       by true false c = C
@@ -68,7 +70,8 @@ module _ (L : ℕ) (p : Pool) (S : Sound L p) (C : Cached (p .nodes)) where
       each (p .nodes) N′ n x c first pages owner D (λ r. r .«cache_policy» ≡ 0) m refl (C n) refl (λ o. D .at-old m o .policy ∙ C m)
 
   module _ (list : List ℕ) (n : ℕ) where
-    born-cached : (first pages : ℕ) → nodeOf (p .nodes) n .«pin_count» ≡ 0 → (c x : ℕ) → getD (p .head) 0 0 ≤ 16777215 → Granted (p .nodes) n x c first pages → Cached (born p list n c x first pages .pool .nodes)
+    born-cached : (first pages : ℕ) → nodeOf (p .nodes) n .«pin_count» ≡ 0 → (c x : ℕ) → getD (p .head) 0 0 ≤ 16777215
+        → Granted (p .nodes) n x c first pages → Cached (born p list n c x first pages .pool .nodes)
     unfolding born
     born-cached first pages unpinned c x l g = cloned-cached (cloned L p n x c first pages g unpinned l S)
 
@@ -77,22 +80,25 @@ module _ (L : ℕ) (p : Pool) (S : Sound L p) (C : Cached (p .nodes)) where
     child-cached offset len =
         on-leaf (refusedOf p list) (λ m. childAt L p list m offset len) L p S n (λ (s : Said). Cached (s .pool .nodes)) C
         (λ leaf.
-        tested (refusedOf p list) (numbered p list n (offset / L) (len / L)) (λ (s : Said). Cached (s .pool .nodes)) (againstChild L (nodeOf (p .nodes) n) offset len) (λ r e. C)
+        tested (refusedOf p list) (numbered p list n (offset / L) (len / L)) (λ (s : Said). Cached (s .pool .nodes))
+        (againstChild L (nodeOf (p .nodes) n) offset len) (λ r e. C)
         (λ e.
         let a = allows L (nodeOf (p .nodes) n) offset len e in
-        numbered-by L p list S n (offset / L) (len / L) leaf (a .fits) (λ (s : Said). Cached (s .pool .nodes)) (λ r. C) (born-cached (offset / L) (len / L) (a .unpinned))))
+        numbered-by L p list S n (offset / L) (len / L) leaf (a .fits) (λ (s : Said). Cached (s .pool .nodes)) (λ r. C)
+        (born-cached (offset / L) (len / L) (a .unpinned))))
 
 module _ (L : ℕ) where
-  module _ (A : Arrays) (p : Pool) (P : Private L A p) (C : Cached (p .nodes)) where
-    step-cached : (c : Call) → Cached (stepBy L p c .pool .nodes)
-    unfolding stepBy
-    step-cached (New pages) = new-cached L p (P .sound) C pages
-    step-cached (Child list n offset len) = child-cached L p (P .sound) C list n offset len
-    step-cached (Read n offset buf) = rw (read-nodes L A p P n offset buf) C
-    step-cached (Write list n offset bytes) = rw (write-nodes L A p P list n offset bytes) C
-    step-cached (Commit list n offset len) = rw (commit-nodes L A p P list n offset len) C
+  module _ (A : Arrays) (p : Pool) (I : Isolated L A p) (C : Cached (p .nodes)) where
+    step-cached : (c : Command) → Cached (effect L p c .pool .nodes)
+    unfolding effect
+    step-cached (New pages) = new-cached L p (I .private .sound) C pages
+    step-cached (Child list n offset len) = child-cached L p (I .private .sound) C list n offset len
+    step-cached (Read n offset buf) = rw (read-nodes L (paged L A) p (I .private) n offset buf) C
+    step-cached (Write list n offset bytes) = rw (write-nodes L (paged L A) p (I .private) list n offset bytes) C
+    step-cached (Also c) = rw (aside-still L (paged L A) p (I .private) c .nodes) C
 
-  pub cached-from : (A : Arrays) (p : Pool) → Private L A p → Cached (p .nodes) → (run : List Call) → Cached (after L p run .nodes)
+  pub cached-from : (A : Arrays) (p : Pool) → Isolated L A p → Cached (p .nodes) → (run : List Command) → Cached (after L p run .nodes)
   unfolding after
-  cached-from A p P C [] = C
-  cached-from A p P C (c ∷ cs) = cached-from (arraysBy L A p c) (stepBy L p c .pool) (step-private L A p P c) (step-cached A p P C c) cs
+  cached-from A p I C [] = C
+  cached-from A p I C (c ∷ cs) =
+      cached-from (arrayBy L A c (effect L p c .result)) (effect L p c .pool) (step-isolated L A p I c) (step-cached A p I C c) cs

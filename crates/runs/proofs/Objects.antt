@@ -12,7 +12,6 @@ use Rattle.node.specs.declared.Node.{Node}
 use Rattle.node.specs.Node.{leafOf}
 use Rattle.tables.specs.Pool.{Pool}
 use Rattle.tables.specs.Tables.{nodeOf}
-use Rattle.sound.specs.Sound.{sound}
 use Rattle.sound.specs.Facts.{Leaf, Sound}
 use Rattle.soundness.proofs.Records.{node-out}
 use Rattle.soundness.proofs.Soundness.{facts-sound}
@@ -31,21 +30,29 @@ leaf-low L p S n leaf =
     (λ out. absurd (leaf-live (p .nodes) n leaf (ap (λ (r : Node). r .kind) (node-out (p .nodes) (S .lengths .nodes) n (omega arith)))))
 
 module _ {R : Type 0} (refuse : Refusal → R) (does : ℕ → R) (L : ℕ) (p : Pool) (S : Sound L p) (object : ℕ) where
-  -- what holds of NO_OBJECT, and of what is done with a live leaf
-  pub on-leaf : (B : R → Type 0) → B (refuse NoObject) → (Leaf (p .nodes) object → B (does object)) → B (onNode L p object refuse does)
+  -- what holds of NO_OBJECT, and of what is done with a live leaf, whichever the object is
+  pub by-leaf : (B : Bool → R → Type 0) → B false (refuse NoObject) → (Leaf (p .nodes) object → B true (does object))
+      → B (leafOf (nodeOf (p .nodes) object)) (onNode L p object refuse does)
   unfolding onNode findObject atNode
-  on-leaf B none go = rw (facts-sound L p S) (by (ltb object 64) (leafOf (nodeOf (p .nodes) object)) refl)
+  by-leaf B none go = rw (facts-sound L p S) (by (leafOf (nodeOf (p .nodes) object)) refl)
     where
-      by : (a b : Bool) → leafOf (nodeOf (p .nodes) object) ≡ b → B (atNode refuse does (pick a (pick b (At object) Nothing) Nothing))
-      by true true h = go h
-      by true false h = none
-      by false b h = none
+      nobody : (a : Bool) → B false (atNode refuse does (pick a Nothing Nothing))
+      nobody true = none
+      nobody false = none
+
+      by : (b : Bool) → leafOf (nodeOf (p .nodes) object) ≡ b → B b (atNode refuse does (pick (ltb object 64) (pick b (At object) Nothing) Nothing))
+      by true h = rw (lt-ltb object 64 (leaf-low L p S object h)) (go h)
+      by false h = nobody (ltb object 64)
+
+  pub on-leaf : (B : R → Type 0) → B (refuse NoObject) → (Leaf (p .nodes) object → B (does object)) → B (onNode L p object refuse does)
+  on-leaf B none go = by-leaf (λ b. B) none go
 
   pub leaf-does : Leaf (p .nodes) object → onNode L p object refuse does ≡ does object
   unfolding onNode findObject atNode
   leaf-does leaf = rw (facts-sound L p S, lt-ltb object 64 (leaf-low L p S object leaf), leaf)
 
 -- tests, and what comes after them
-pub tested : {R : Type 0} (refuse : Refusal → R) (go : R) (B : R → Type 0) (a : Against) → ((r : Refusal) → a ≡ Why r → B (refuse r)) → (a ≡ Fine → B go) → B (unless a refuse go)
+pub tested : {R : Type 0} (refuse : Refusal → R) (go : R) (B : R → Type 0) (a : Against) → ((r : Refusal) → a ≡ Why r → B (refuse r))
+    → (a ≡ Fine → B go) → B (unless a refuse go)
 tested refuse go B (Why r) f g = f r refl
 tested refuse go B Fine f g = g refl

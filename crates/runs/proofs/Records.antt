@@ -58,7 +58,8 @@ module _ (L : ℕ) (p : Pool) (S : Sound L p) (o : ℕ) (live : Leaf (p .nodes) 
   unfolding new newLeaf
   new-kept size = by (sound L p) (leb size 64) (leb (getD (p .head) 0 0) 16777215)
     where
-      by : (a b c : Bool) → Kept (pick a (pick b (pick c (leafAt p size (freeNodeIn (p .nodes))) (refused NoNode p)) (refused InvalidArgs p)) (refused BadPool p) .pool)
+      by : (a b c : Bool)
+          → Kept (pick a (pick b (pick c (leafAt p size (freeNodeIn (p .nodes))) (refused NoNode p)) (refused InvalidArgs p)) (refused BadPool p) .pool)
       by true true true = leaf-kept size (freeNodeIn (p .nodes)) refl
       by true true false = kept
       by true false c = kept
@@ -75,7 +76,8 @@ module _ (L : ℕ) (p : Pool) (S : Sound L p) (o : ℕ) (live : Leaf (p .nodes) 
       record { leaf = rw (r .kind); size = r .size; policy = r .policy })
 
   module _ (list : List ℕ) (n : ℕ) where
-    born-kept : (first pages : ℕ) → nodeOf (p .nodes) n .«pin_count» ≡ 0 → (c x : ℕ) → getD (p .head) 0 0 ≤ 16777215 → Granted (p .nodes) n x c first pages → Kept (born p list n c x first pages .pool)
+    born-kept : (first pages : ℕ) → nodeOf (p .nodes) n .«pin_count» ≡ 0 → (c x : ℕ) → getD (p .head) 0 0 ≤ 16777215
+        → Granted (p .nodes) n x c first pages → Kept (born p list n c x first pages .pool)
     unfolding born
     born-kept first pages unpinned c x l g = cloned-kept (cloned L p n x c first pages g unpinned l S)
 
@@ -84,7 +86,9 @@ module _ (L : ℕ) (p : Pool) (S : Sound L p) (o : ℕ) (live : Leaf (p .nodes) 
     child-kept offset len =
         on-leaf (refusedOf p list) (λ m. childAt L p list m offset len) L p S n (λ (s : Said). Kept (s .pool)) kept
         (λ leaf.
-        tested (refusedOf p list) (numbered p list n (offset / L) (len / L)) (λ (s : Said). Kept (s .pool)) (againstChild L (nodeOf (p .nodes) n) offset len) (λ r e. kept)
+        tested (refusedOf p list) (numbered p list n (offset / L) (len / L)) (λ (s : Said). Kept (s .pool))
+        (againstChild L (nodeOf (p .nodes) n) offset len) (λ r e. kept)
         (λ e.
         let a = allows L (nodeOf (p .nodes) n) offset len e in
-        numbered-by L p list S n (offset / L) (len / L) leaf (a .fits) (λ (s : Said). Kept (s .pool)) (λ r. kept) (born-kept (offset / L) (len / L) (a .unpinned))))
+        numbered-by L p list S n (offset / L) (len / L) leaf (a .fits) (λ (s : Said). Kept (s .pool)) (λ r. kept)
+        (born-kept (offset / L) (len / L) (a .unpinned))))

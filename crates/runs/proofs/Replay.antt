@@ -1,94 +1,121 @@
--- What the reads of an object give follows from its own calls and its array at their start. Assumes nothing.
-use mathlib.Core.Path.{_≡_, refl, sym, ap, _∙_}
+-- What the reads of an object give, and the array it ends with, follow from its own reads and writes and its array at their start. Assumes nothing.
+use mathlib.Core.Path.{_≡_, refl, ap, _∙_, subst}
+use mathlib.Core.Bool.{Bool, true, false}
 use mathlib.Core.List.{List, [], _∷_}
-use Prim.Native.Nat.{ℕ, zero, suc, _+_, _/_, _%_, _<_}
+use Prim.Native.Nat.{ℕ, _+_}
 use native.Mathlib.Omega.{arith}
-use lib.ListN.{length, getD}
-use lib.Seq.{ext-getD}
+use lib.Dec.{eqb, leb}
+use lib.ListN.{length, take, drop, replicate, length-replicate}
+use borrow.Author.Tests.{eqb-true, eqb-false}
+use Rattle.logic.specs.Pick.{pick}
 use Rattle.tables.specs.Pool.{Pool}
 use Rattle.sound.specs.Facts.{Leaf}
-use Rattle.outcome.specs.declared.answer.Answer.the-variants.{Done, Refused}
-use Rattle.outcome.specs.declared.answer.Against.{Against}
-use Rattle.outcome.specs.declared.answer.Against.the-variants.{Why, Nothing as Fine}
-use Rattle.ranges.specs.Ranges.{Filled, againstReading, cachedOf, insideOf}
-use Rattle.isolation.specs.Private.{Private}
-use Rattle.arrays.specs.Arrays.{writeArray}
-use Rattle.arrays.specs.Outcomes.{Reads}
-use Rattle.runs.specs.Runs.{Call, Reply, replyOf, stepBy, Event}
-use Rattle.runs.specs.Runs.Call.{New, Child, Read, Write, Commit}
-use Rattle.runs.specs.Arrays.{Arrays}
-use Rattle.runs.specs.Own.{got}
+use Rattle.pool.specs.declared.answer.Answer.the-variants.{Done, Refused}
+use Rattle.pool.specs.declared.answer.Refusal.the-variants.{OutOfRange}
+use Rattle.ranges.specs.Ranges.{cachedOf}
+use Rattle.runs.specs.Runs.{Command, Result, resultOf, effect, history}
+use Rattle.runs.specs.Runs.Command.{New, Child, Read, Write, Also}
+use Rattle.runs.specs.Arrays.{Arrays, overwritten, arrayBy, arraysAfter, readArray}
+use Rattle.runs.specs.Isolated.{Isolated}
+use Rattle.runs.specs.Own.{Deed, deedsBy, deeds, got, readsBy, readsOf}
+use Rattle.runs.specs.Own.Deed.{Asked, Overwrites}
 use Rattle.runs.proofs.Records.{Same}
-use Rattle.runs.proofs.Ranges.{read-leaf}
-use Rattle.runs.proofs.Steps.{arraysBy}
+use Rattle.runs.proofs.Given.{read-is}
+use Rattle.runs.proofs.Steps.{given-same, step-isolated}
+use Rattle.runs.proofs.Turns.{turn-same, turn-keeps}
 
--- the first n of the numbers f 0, f 1, ..
-unfoldable pub listed : (ℕ → ℕ) → ℕ → List ℕ
-listed f zero = []
-listed f (suc n) = f 0 ∷ listed (λ j. f (suc j)) n
+-- what deeds give and leave, from an array on
 
-listed-length : (f : ℕ → ℕ) (n : ℕ) → length (listed f n) ≡ n
-unfolding listed
-listed-length f zero = refl
-listed-length f (suc n) = ap suc (listed-length (λ j. f (suc j)) n)
+abbrev pub shown : Bool → List ℕ → ℕ → ℕ → Result
+shown cached a offset len = got (readArray true cached a offset (replicate len 0))
 
-listed-at : (f : ℕ → ℕ) (n j : ℕ) → j < n → getD (listed f n) j 0 ≡ f j
-unfolding listed
-listed-at f zero j l = absurd (omega arith)
-listed-at f (suc n) zero l = refl
-listed-at f (suc n) (suc j) l = listed-at (λ j. f (suc j)) n j (omega arith)
+unfoldable pub replay : Bool → List ℕ → List Deed → List Result
+replay cached a [] = []
+replay cached a (Asked offset len ∷ ds) = shown cached a offset len ∷ replay cached a ds
+replay cached a (Overwrites offset bytes answer done ∷ ds) = replay cached (overwritten a offset bytes done) ds
 
-module _ (L : ℕ) (tests : ℕ → ℕ → Against) where
-  -- a read of an array, by its tests
-  unfoldable pub shown : (ℕ → ℕ → ℕ) → ℕ → ℕ → Against → Reply
-  shown a offset len (Why r) = replyOf (Refused r) 0 []
-  shown a offset len Fine = replyOf (Done 0) 0 (listed (λ j. a ((offset + j) / L) ((offset + j) % L)) len)
+unfoldable pub ending : List ℕ → List Deed → List ℕ
+ending a [] = a
+ending a (Asked offset len ∷ ds) = ending a ds
+ending a (Overwrites offset bytes answer done ∷ ds) = ending (overwritten a offset bytes done) ds
 
-  -- what an own call adds to the replies of reads, and the array after it
-  unfoldable pub adds : (ℕ → ℕ → ℕ) → Call → List Reply → List Reply
-  adds a (Read n offset buf) rs = shown a offset (length buf) (tests offset (length buf)) ∷ rs
-  adds a (New pages) rs = rs
-  adds a (Child list n offset len) rs = rs
-  adds a (Write list n offset bytes) rs = rs
-  adds a (Commit list n offset len) rs = rs
+-- what a buffer held before doesn't count
+got-shown : (cached : Bool) (a : List ℕ) (offset : ℕ) (buf : List ℕ) → got (readArray true cached a offset buf) ≡ shown cached a offset (length buf)
+got-shown false a offset buf = refl
+got-shown true a offset buf = rw (length-replicate {A = ℕ} (length buf) 0) (by (leb (offset + length buf) (length a)))
+  where
+    by : (b : Bool) → got (pick b (resultOf (Done 0) 0 (take (length buf) (drop offset a))) (resultOf (Refused OutOfRange) 0 buf))
+        ≡ got (pick b (resultOf (Done 0) 0 (take (length buf) (drop offset a))) (resultOf (Refused OutOfRange) 0 (replicate (length buf) 0)))
+    by true = refl
+    by false = refl
 
-  unfoldable pub next : (ℕ → ℕ → ℕ) → Call → ℕ → ℕ → ℕ → ℕ
-  next a (Write list n offset bytes) done = writeArray L (λ m. a) n offset bytes done n
-  next a (Read n offset buf) done = a
-  next a (New pages) done = a
-  next a (Child list n offset len) done = a
-  next a (Commit list n offset len) done = a
+pub record Follows (cached : Bool) (a : List ℕ) (rs : List Result) (ds : List Deed) (end : List ℕ) : Type 0 where
+  pub reads : rs ≡ replay cached a ds
+  pub ends : end ≡ ending a ds
 
-  unfoldable pub replay : (ℕ → ℕ → ℕ) → List Event → List Reply
-  replay a [] = []
-  replay a (e ∷ es) = adds a (e .call) (replay (next a (e .call) (e .reply .done)) es)
+same-cached : {o : ℕ} {N N′ : List ℕ} → Same o N N′ → cachedOf N′ o ≡ cachedOf N o
+unfolding cachedOf
+same-cached s = rw (s .policy)
 
--- the tests of a read look at the size and the policy alone
-pub tests-same : (L : ℕ) {o : ℕ} {N N′ : List ℕ} → Same o N N′ → (offset len : ℕ) → againstReading L N′ o offset len ≡ againstReading L N o offset len
-unfolding againstReading cachedOf insideOf
-tests-same L s offset len = rw (s .size, s .policy)
+-- one call before replies rs and deeds ds, which follow from the array after it
+module _ (L : ℕ) (A : Arrays) (p : Pool) (I : Isolated L A p) (o : ℕ) (live : Leaf (p .nodes) o) (rs : List Result) (ds : List Deed) (end : List ℕ) where
+  abbrev cached : Bool
+  cached = cachedOf (p .nodes) o
 
-module _ (L : ℕ) (tests : ℕ → ℕ → Against) (o : ℕ) (a : ℕ → ℕ → ℕ) (A : Arrays) (p : Pool) (P : Private L A p) (live : Leaf (p .nodes) o)
-    (alike : (offset len : ℕ) → againstReading L (p .nodes) o offset len ≡ tests offset len) (reads : (i k : ℕ) → A o i k ≡ a i k) where
-  -- a read of the object gives its array
-  pub read-shown : (offset : ℕ) (buf : List ℕ) → let r = stepBy L p (Read o offset buf) .reply in got (r .answer) (r .buf) ≡ shown L tests a offset (length buf) (tests offset (length buf))
-  unfolding stepBy shown
-  read-shown offset buf =
-      read-leaf L A p P o offset buf live (λ (r : Filled) (x : Against). got (r .answer) (r .buf) ≡ shown L tests a offset (length buf) x)
-      (λ r. refl) by
-      ∙ ap (shown L tests a offset (length buf)) (alike offset (length buf))
-    where
-      by : (r : Filled) → Reads L A p o offset buf r → got (r .answer) (r .buf) ≡ shown L tests a offset (length buf) Fine
-      by r w =
-          let f : ℕ → ℕ = λ j. a ((offset + j) / L) ((offset + j) % L) in
-          let n = listed-length f (length buf) in
-          let e : r .buf ≡ listed f (length buf) =
-          ext-getD 0 (r .buf) (listed f (length buf)) (w .size ∙ sym n)
-          (λ j l. let h : j < length buf = rw (w .size) at l in w .bytes j h ∙ reads ((offset + j) / L) ((offset + j) % L) ∙ sym (listed-at f (length buf) j h)) in
-          rw (w .answer, e)
+  abbrev After : Command → Type 0
+  After c = Follows cached (arrayBy L A c (effect L p c .result) o) rs ds end
 
-  -- the array after an own write
-  pub write-next : (list : List ℕ) (offset : ℕ) (bytes : List ℕ) (i k : ℕ)
-      → arraysBy L A p (Write list o offset bytes) o i k ≡ next L tests a (Write list o offset bytes) (stepBy L p (Write list o offset bytes) .reply .done) i k
-  unfolding writeArray next
-  write-next list offset bytes i k = rw (reads i k)
+  abbrev Before : Command → Type 0
+  Before c = Follows cached (A o) (readsBy o c (effect L p c .result) rs) (deedsBy o c (effect L p c .result) ds) end
+
+  -- a call that is no write of o leaves its array
+  still : (c : Command) → ((list : List ℕ) (offset : ℕ) (bytes : List ℕ) → c ≡ Write list o offset bytes → ⊥) → After c
+      → Follows cached (A o) rs ds end
+  still c not-own f = subst (λ (a : List ℕ). Follows cached a rs ds end) (turn-keeps L A p I o live c not-own) f
+
+  read-got : (offset : ℕ) (buf : List ℕ) → got (effect L p (Read o offset buf) .result) ≡ shown cached (A o) offset (length buf)
+  unfolding effect
+  read-got offset buf =
+      ap got (read-is L A p I o offset buf) ∙ ap (λ (b : Bool). got (readArray b cached (A o) offset buf)) live ∙ got-shown cached (A o) offset buf
+
+  read-by : (n offset : ℕ) (buf : List ℕ) (b : Bool) → eqb n o ≡ b → Follows cached (A o) rs ds end
+      → Follows cached (A o) (pick b (got (effect L p (Read n offset buf) .result) ∷ rs) rs) (pick b (Asked offset (length buf) ∷ ds) ds) end
+  unfolding replay ending
+  read-by n offset buf true t f =
+      record {
+        reads = rw (eqb-true n o t)
+            (ap (λ (r : Result). r ∷ rs) (read-got offset buf) ∙ ap (λ (x : List Result). shown cached (A o) offset (length buf) ∷ x) (f .reads));
+        ends = f .ends;
+      }
+  read-by n offset buf false t f = f
+
+  write-by : (list : List ℕ) (n offset : ℕ) (bytes : List ℕ) (b : Bool) → eqb n o ≡ b → After (Write list n offset bytes)
+      → let r = effect L p (Write list n offset bytes) .result in
+      Follows cached (A o) rs (pick b (Overwrites offset bytes (r .answer) (r .done) ∷ ds) ds) end
+  unfolding replay ending
+  write-by list n offset bytes true t f =
+      let r = effect L p (Write list n offset bytes) .result in
+      let e : arrayBy L A (Write list n offset bytes) r o ≡ overwritten (A o) offset bytes (r .done) =
+      rw (eqb-true n o t) (given-same A o (overwritten (A o) offset bytes (effect L p (Write list o offset bytes) .result .done))) in
+      record { reads = f .reads ∙ ap (λ (a : List ℕ). replay cached a ds) e; ends = f .ends ∙ ap (λ (a : List ℕ). ending a ds) e }
+  write-by list n offset bytes false t f =
+      still (Write list n offset bytes) (λ l x y e. eqb-false n o t (let d : n ≡ o = cc in d)) f
+
+  turn : (c : Command) → After c → Before c
+  turn (New pages) f = still (New pages) (λ l x y e. let z : _≡_ {A = ℕ} 0 1 = cc in omega arith) f
+  turn (Child list n offset len) f = still (Child list n offset len) (λ l x y e. let z : _≡_ {A = ℕ} 0 1 = cc in omega arith) f
+  turn (Read n offset buf) f =
+      read-by n offset buf (eqb n o) refl (still (Read n offset buf) (λ l x y e. let z : _≡_ {A = ℕ} 0 1 = cc in omega arith) f)
+  turn (Write list n offset bytes) f = write-by list n offset bytes (eqb n o) refl f
+  turn (Also c) f = still (Also c) (λ l x y e. let z : _≡_ {A = ℕ} 0 1 = cc in omega arith) f
+
+pub follows : (L : ℕ) (A : Arrays) (p : Pool) → Isolated L A p → (o : ℕ) → Leaf (p .nodes) o → (run : List Command)
+    → let h = history L p run in Follows (cachedOf (p .nodes) o) (A o) (readsOf o h) (deeds o h) (arraysAfter L A h o)
+unfolding history readsOf deeds arraysAfter replay ending
+follows L A p I o live [] = record { reads = refl; ends = refl }
+follows L A p I o live (c ∷ cs) =
+    let q = effect L p c .pool in
+    let C = arrayBy L A c (effect L p c .result) in
+    let s = turn-same L A p I o live c in
+    turn L A p I o live (readsOf o (history L q cs)) (deeds o (history L q cs)) (arraysAfter L C (history L q cs) o) c
+    (rw (same-cached s) at (follows L C q (step-isolated L A p I c) o (s .leaf ∙ live) cs))

@@ -1,62 +1,45 @@
--- The part of a history that is one object's own.
-use mathlib.Core.Bool.{Bool, true, false}
+-- An object's own part of a history: its reads and its writes.
 use mathlib.Core.List.{List, [], _∷_}
 use Prim.Native.Nat.{ℕ}
 use lib.Dec.{eqb}
-use lib.ListN.{length, replicate}
+use lib.ListN.{length}
 use Rattle.logic.specs.Pick.{pick}
-use Rattle.outcome.specs.declared.answer.Answer.{Answer}
-use Rattle.outcome.specs.declared.answer.Answer.the-variants.{Done, Refused}
-use Rattle.runs.specs.Runs.{Call, Reply, replyOf, Event, eventOf}
-use Rattle.runs.specs.Runs.Call.{New, Child, Read, Write, Commit}
+use Rattle.pool.specs.declared.answer.Answer.{Answer}
+use Rattle.runs.specs.Runs.{Command, Result, resultOf, Event}
+use Rattle.runs.specs.Runs.Command.{New, Child, Read, Write, Also}
+use Rattle.runs.specs.Arrays.{bytesIn}
 
--- a call that makes an object
-abbrev pub makes : Call → Bool
-makes (New pages) = true
-makes (Child list n offset len) = true
-makes (Read n offset buf) = false
-makes (Write list n offset bytes) = false
-makes (Commit list n offset len) = false
+-- what counts of a read: where, and how many bytes; of a write: where, which bytes, its answer, and how many bytes are done. Neither the object's
+-- number nor what a lent list or buffer held before
+pub data Deed : Type 0 where
+  Asked : (offset len : ℕ) → Deed
+  Overwrites : (offset : ℕ) (bytes : List ℕ) (answer : Answer) (done : ℕ) → Deed
 
--- a call on object o
-abbrev pub isOn : ℕ → Call → Bool
-isOn o (New pages) = false
-isOn o (Child list n offset len) = eqb n o
-isOn o (Read n offset buf) = eqb n o
-isOn o (Write list n offset bytes) = eqb n o
-isOn o (Commit list n offset len) = eqb n o
+-- before those of later calls
+abbrev pub deedsBy : ℕ → Command → Result → List Deed → List Deed
+deedsBy o (Read n offset buf) r ds = pick (eqb n o) (Asked offset (length buf) ∷ ds) ds
+deedsBy o (Write list n offset bytes) r ds = pick (eqb n o) (Overwrites offset bytes (r .answer) (r .done) ∷ ds) ds
+deedsBy o (New pages) r ds = ds
+deedsBy o (Child list n offset len) r ds = ds
+deedsBy o (Also c) r ds = ds
 
--- a read of object o
-abbrev pub isRead : ℕ → Call → Bool
-isRead o (Read n offset buf) = eqb n o
-isRead o (New pages) = false
-isRead o (Child list n offset len) = false
-isRead o (Write list n offset bytes) = false
-isRead o (Commit list n offset len) = false
-
--- what counts of a call on an object: its numbers, the bytes to write and the buffer's length, but no word that a lent list or buffer held before;
--- and of a write what it gave
-abbrev pub nothing : Reply
-nothing = replyOf (Done 0) 0 []
-
-abbrev pub known : Call → Reply → Event
-known (New pages) r = eventOf (New pages) nothing
-known (Child list n offset len) r = eventOf (Child [] n offset len) nothing
-known (Read n offset buf) r = eventOf (Read n offset (replicate (length buf) 0)) nothing
-known (Write list n offset bytes) r = eventOf (Write [] n offset bytes) r
-known (Commit list n offset len) r = eventOf (Commit [] n offset len) nothing
-
--- o's own calls, in order
-unfoldable pub own : ℕ → List Event → List Event
-own o [] = []
-own o (e ∷ es) = pick (isOn o (e .call)) (known (e .call) (e .reply) ∷ own o es) (own o es)
+-- o's own reads and writes, in order
+unfoldable pub deeds : ℕ → List Event → List Deed
+deeds o [] = []
+deeds o (e ∷ es) = deedsBy o (e .command) (e .result) (deeds o es)
 
 -- what a read gave: its answer, and the bytes if it was accepted
-abbrev pub got : Answer → List ℕ → Reply
-got (Done v) buf = replyOf (Done v) 0 buf
-got (Refused r) buf = replyOf (Refused r) 0 []
+abbrev pub got : Result → Result
+got r = resultOf (r .answer) 0 (bytesIn r)
+
+abbrev pub readsBy : ℕ → Command → Result → List Result → List Result
+readsBy o (Read n offset buf) r rs = pick (eqb n o) (got r ∷ rs) rs
+readsBy o (Write list n offset bytes) r rs = rs
+readsBy o (New pages) r rs = rs
+readsBy o (Child list n offset len) r rs = rs
+readsBy o (Also c) r rs = rs
 
 -- what the reads of o gave, in order
-unfoldable pub readsOf : ℕ → List Event → List Reply
+unfoldable pub readsOf : ℕ → List Event → List Result
 readsOf o [] = []
-readsOf o (e ∷ es) = pick (isRead o (e .call)) (got (e .reply .answer) (e .reply .buf) ∷ readsOf o es) (readsOf o es)
+readsOf o (e ∷ es) = readsBy o (e .command) (e .result) (readsOf o es)

@@ -1,65 +1,90 @@
--- Runs of the calls new, create_child, read, write and commit on a pool of pages of L bytes: any calls, in any order, refused ones among them.
+-- Runs of calls on a pool of pages of L bytes: any calls, in any order, refused ones among them.
+use mathlib.Core.Bool.{Bool}
 use mathlib.Core.List.{List, [], _∷_}
 use Prim.Native.Nat.{ℕ}
 use Rattle.tables.specs.Pool.{Pool}
-use Rattle.outcome.specs.declared.answer.Answer.{Answer}
-use Rattle.pool.specs.Calls.{start, new}
+use Rattle.pool.specs.declared.answer.Answer.{Answer}
+use Rattle.pool.specs.declared.answer.Answer.the-variants.{Done}
+use Rattle.pool.specs.Calls.{start, new, len}
+use Rattle.mapped.specs.Mapped.{appendMapping, removeMapping}
+use Rattle.forecast.specs.Forecast.{forecast}
+use Rattle.commit.specs.Commit.{commitPage}
 use Rattle.child.specs.Child.{createChild}
 use Rattle.ranges.specs.Ranges.{read, write, commit}
+use Rattle.peek.specs.Peek.{peek}
 
--- a call with its arguments: any numbers, and lists for the lent notices, the lent buffer and the bytes to write
-pub data Call : Type 0 where
-  New : (pages : ℕ) → Call
-  Child : (list : List ℕ) (object offset len : ℕ) → Call
-  Read : (object offset : ℕ) (buf : List ℕ) → Call
-  Write : (list : List ℕ) (object offset : ℕ) (bytes : List ℕ) → Call
-  Commit : (list : List ℕ) (object offset len : ℕ) → Call
+-- the calls that make no object and have no buffer: with any numbers, a list for lent notices, and one for the lent page of zeros
+pub data Aside : Type 0 where
+  Commit : (list : List ℕ) (object offset len : ℕ) → Aside
+  CommitPage : (list : List ℕ) (object page : ℕ) (write : Bool) → Aside
+  Len : (object : ℕ) → Aside
+  Peek : (zero : List ℕ) (object page : ℕ) → Aside
+  Forecast : (object offset len : ℕ) → Aside
+  Append : (object first pages : ℕ) → Aside
+  Remove : (object mapping : ℕ) → Aside
 
--- what it gave: the answer, the bytes that a write calls done, and the buffer that a read leaves
-pub record Reply : Type 0 where
+-- a call with its arguments; lists also for the lent buffer and the bytes to write
+pub data Command : Type 0 where
+  New : (pages : ℕ) → Command
+  Child : (list : List ℕ) (object offset len : ℕ) → Command
+  Read : (object offset : ℕ) (buf : List ℕ) → Command
+  Write : (list : List ℕ) (object offset : ℕ) (bytes : List ℕ) → Command
+  Also : Aside → Command
+
+-- what it gave: the answer, the bytes that a write calls done, and the buffer that a read leaves or the bytes that a peek shows
+pub record Result : Type 0 where
   pub answer : Answer
   pub done : ℕ
   pub buf : List ℕ
 
-abbrev pub replyOf : Answer → ℕ → List ℕ → Reply
-replyOf a d b = record { answer = a; done = d; buf = b }
+abbrev pub resultOf : Answer → ℕ → List ℕ → Result
+resultOf a d b = record { answer = a; done = d; buf = b }
 
 -- with the pool that it left
-pub record Step : Type 0 where
-  pub reply : Reply
+pub record Effect : Type 0 where
+  pub result : Result
   pub pool : Pool
 
-abbrev pub stepOf : Reply → Pool → Step
-stepOf r p = record { reply = r; pool = p }
+abbrev pub effectOf : Answer → ℕ → List ℕ → Pool → Effect
+effectOf a d b p = record { result = resultOf a d b; pool = p }
 
--- by the rules of the calls themselves
-unfoldable pub stepBy : ℕ → Pool → Call → Step
-stepBy L p (New pages) = let r = new L p pages in stepOf (replyOf (r .answer) 0 []) (r .pool)
-stepBy L p (Child list n offset len) = let r = createChild L p list n offset len in stepOf (replyOf (r .answer) 0 []) (r .pool)
-stepBy L p (Read n offset buf) = let r = read L p n offset buf in stepOf (replyOf (r .answer) 0 (r .buf)) (r .pool)
-stepBy L p (Write list n offset bytes) = let r = write L p list n offset bytes in stepOf (replyOf (r .said .answer) (r .done) []) (r .said .pool)
-stepBy L p (Commit list n offset len) = let r = commit L p list n offset len in stepOf (replyOf (r .said .answer) 0 []) (r .said .pool)
+-- by the rules of the calls themselves; a peek is a function to bytes, which are none where it shows nothing
+unfoldable pub asideEffect : ℕ → Pool → Aside → Effect
+asideEffect L p (Commit list n offset bytes) = let r = commit L p list n offset bytes in effectOf (r .said .answer) 0 [] (r .said .pool)
+asideEffect L p (CommitPage list n page writing) = let r = commitPage L p list n page writing in effectOf (r .answer) 0 [] (r .pool)
+asideEffect L p (Len n) = let r = len L p n in effectOf (r .answer) 0 [] (r .pool)
+asideEffect L p (Peek zero n page) = effectOf (Done 0) 0 (peek L p zero n page) p
+asideEffect L p (Forecast n offset bytes) = let r = forecast L p n offset bytes in effectOf (r .answer) 0 [] (r .pool)
+asideEffect L p (Append n first pages) = let r = appendMapping L p n first pages in effectOf (r .answer) 0 [] (r .pool)
+asideEffect L p (Remove n mapping) = let r = removeMapping L p n mapping in effectOf (r .answer) 0 [] (r .pool)
+
+unfoldable pub effect : ℕ → Pool → Command → Effect
+effect L p (New pages) = let r = new L p pages in effectOf (r .answer) 0 [] (r .pool)
+effect L p (Child list n offset bytes) = let r = createChild L p list n offset bytes in effectOf (r .answer) 0 [] (r .pool)
+effect L p (Read n offset buf) = let r = read L p n offset buf in effectOf (r .answer) 0 (r .buf) (r .pool)
+effect L p (Write list n offset bytes) = let r = write L p list n offset bytes in effectOf (r .said .answer) (r .done) [] (r .said .pool)
+effect L p (Also c) = asideEffect L p c
 
 -- the pool after a run
-unfoldable pub after : ℕ → Pool → List Call → Pool
+unfoldable pub after : ℕ → Pool → List Command → Pool
 after L p [] = p
-after L p (c ∷ cs) = after L (stepBy L p c .pool) cs
+after L p (c ∷ cs) = after L (effect L p c .pool) cs
 
 -- its history: each call, and what it gave
 pub record Event : Type 0 where
-  pub call : Call
-  pub reply : Reply
+  pub command : Command
+  pub result : Result
 
-abbrev pub eventOf : Call → Reply → Event
-eventOf c r = record { call = c; reply = r }
+abbrev pub eventOf : Command → Result → Event
+eventOf c r = record { command = c; result = r }
 
-unfoldable pub history : ℕ → Pool → List Call → List Event
+unfoldable pub history : ℕ → Pool → List Command → List Event
 history L p [] = []
-history L p (c ∷ cs) = eventOf c (stepBy L p c .reply) ∷ history L (stepBy L p c .pool) cs
+history L p (c ∷ cs) = eventOf c (effect L p c .result) ∷ history L (effect L p c .pool) cs
 
 -- a run on a fresh pool, which start made of the tables and the memory lent
-abbrev pub poolAfter : ℕ → Pool → List Call → Pool
+abbrev pub poolAfter : ℕ → Pool → List Command → Pool
 poolAfter L p run = after L (start L p .pool) run
 
-abbrev pub historyOf : ℕ → Pool → List Call → List Event
+abbrev pub historyOf : ℕ → Pool → List Command → List Event
 historyOf L p run = history L (start L p .pool) run

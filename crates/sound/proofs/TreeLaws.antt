@@ -71,7 +71,7 @@ blank-node : (nodes : List ℕ) (next i : ℕ) (n : Node) → n ≡ freeNode →
 unfolding numbersOk linksOk
 blank-node nodes next i n e = rw e (by (leb 1 next))
   where
-    by : (b : Bool) → b ≡ (b && true && true)
+    by : (b : Bool) → b ≡ (b && true && true && true)
     by true = refl
     by false = refl
 

@@ -63,6 +63,8 @@ pub record Tree (N : List ℕ) (next : ℕ) : Type 0 where
   pub window-size : (n : ℕ) → nodeOf N n .«parent_limit» ≤ nodeOf N n .«parent_offset» + nodeOf N n .size
   pub sizes : (n : ℕ) → nodeOf N n .size ≤ 64
   pub policies : (n : ℕ) → nodeOf N n .«cache_policy» ≤ 3
+  -- an object's pin count is at most 4,294,967,295 (and, in `Entries`, at least the sum of its entries' pins)
+  pub counts : (n : ℕ) → nodeOf N n .«pin_count» ≤ 4294967295
   -- of the layout: a kind is 0 to 3, and a free node's record is blank
   pub kinds : (n : ℕ) → nodeOf N n .kind ≤ 3
   pub blank : (n : ℕ) → nodeOf N n .kind ≡ 0 → nodeOf N n ≡ freeNode
@@ -91,7 +93,7 @@ pub record Entries (N P used : List ℕ) : Type 0 where
   -- leaf entries are Owned; entries lie below the node's size
   pub leaves : (n i : ℕ) (s : PageState) → (Hidden N n → ⊥) → Holds P n i s → s .tag ≡ Owned
   pub below : (n i : ℕ) (s : PageState) → Holds P n i s → i < nodeOf N n .size
-  -- pins are 0 to 31 and 0 in hidden nodes; an object's pin count is at least the sum of its entries' pins (and, a word, at most 4,294,967,295)
+  -- pins are 0 to 31 and 0 in hidden nodes; an object's pin count is at least the sum of its entries' pins
   pub pins : (n i : ℕ) (s : PageState) → Holds P n i s → s .«pin_count» ≤ 31
   pub hidden-pins : (n i : ℕ) (s : PageState) → Hidden N n → Holds P n i s → s .«pin_count» ≡ 0
   pub pin-sum : (n : ℕ) → sumBelow (λ i. pinsOf (slotAt P n i)) 64 ≤ nodeOf N n .«pin_count»

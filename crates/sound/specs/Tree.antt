@@ -15,11 +15,12 @@ blankNode n =
     eqb (n .parent) 0 && eqb (n .left) 0 && eqb (n .right) 0 && eqb (n .«parent_offset») 0 && eqb (n .«parent_limit») 0
     && eqb (n .size) 0 && eqb (n .owner) 0 && eqb (n .«cache_policy») 0 && eqb (n .«pin_count») 0
 
+-- a pin count is a word, so that its test always holds of lent tables, and the code needs none
 unfoldable pub numbersOk : Node → ℕ → Bool
 numbersOk n next =
     leb (n .kind) 3 && (not (eqb (n .kind) 0) || blankNode n) && leb (n .«parent_offset») (n .«parent_limit»)
     && leb (n .«parent_limit») (n .«parent_offset» + n .size) && leb (n .size) 64 && ltb (n .owner) next
-    && leb (n .«cache_policy») 3
+    && leb (n .«cache_policy») 3 && leb (n .«pin_count») 4294967295
 
 -- word k of the node that a link names
 unfoldable pub linkedOf : List ℕ → ℕ → ℕ → ℕ

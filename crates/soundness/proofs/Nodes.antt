@@ -24,13 +24,13 @@ free-ok N next len pos n l = rw (node-out N len n l, lt-ltb 0 next pos)
 
 abbrev pub Numbers : Node → ℕ → Type 0
 Numbers r next =
-    ((((((r .kind ≤ 3) × (r .kind ≡ 0 → r ≡ freeNode)) × (r .«parent_offset» ≤ r .«parent_limit»)) × (r .«parent_limit» ≤ r .«parent_offset» + r .size))
-    × (r .size ≤ 64)) × (r .owner < next)) × (r .«cache_policy» ≤ 3)
+    (((((((r .kind ≤ 3) × (r .kind ≡ 0 → r ≡ freeNode)) × (r .«parent_offset» ≤ r .«parent_limit»)) × (r .«parent_limit» ≤ r .«parent_offset» + r .size))
+    × (r .size ≤ 64)) × (r .owner < next)) × (r .«cache_policy» ≤ 3)) × (r .«pin_count» ≤ 4294967295)
 
 numbers-mean : (r : Node) (next : ℕ) → Means (numbersOk r next) (Numbers r next)
 unfolding numbersOk
 numbers-mean r next =
-    both (both (both (both (both (both (most _ _) (implies (equal _ _) (blank-means r))) (most _ _)) (most _ _)) (most _ _)) (less _ _)) (most _ _)
+    both (both (both (both (both (both (both (most _ _) (implies (equal _ _) (blank-means r))) (most _ _)) (most _ _)) (most _ _)) (less _ _)) (most _ _)) (most _ _)
 
 -- its links: children, no children, parent
 

@@ -29,7 +29,7 @@ module _ (N : List ℕ) (next : ℕ) (len : length N ≡ 1024) where
 
   module _ (nodes : (n : ℕ) → Numbers (nodeOf N n) next × Links N n (nodeOf N n)) where
     free : (n : ℕ) → nodeOf N n .kind ≡ 0 → nodeOf N n ≡ freeNode
-    free n = let ((((((kind, blank), window), limit), size), owner), policy) = nodes n .0 in blank
+    free n = let (((((((kind, blank), window), limit), size), owner), policy), count) = nodes n .0 in blank
 
     -- a node that names a parent is live
     names : (h link : ℕ) → linkedOf N link 1 ≡ h + 1 → Names N h link
@@ -66,7 +66,7 @@ module _ (N : List ℕ) (next : ℕ) (len : length N ≡ 1024) where
 
     node-back : (n : ℕ) → Numbers (nodeOf N n) next × Links N n (nodeOf N n)
     node-back n = (
-      (((((((t .kinds n, t .blank n), t .window n), t .window-size n), t .sizes n), owner n), t .policies n)),
+      (((((((t .kinds n, t .blank n), t .window n), t .window-size n), t .sizes n), owner n), t .policies n), t .counts n),
       ((
         (λ h. ((named (t .left-child n h), named (t .right-child n h)), t .distinct n h), t .childless n),
         λ ne.
@@ -99,6 +99,7 @@ module _ (N : List ℕ) (next : ℕ) (len : length N ≡ 1024) where
         window-size = λ n. let q = nodes n .0 in omega arith;
         sizes = λ n. let q = nodes n .0 in omega arith;
         policies = λ n. let q = nodes n .0 in omega arith;
+        counts = λ n. let q = nodes n .0 in omega arith;
         kinds = λ n. let q = nodes n .0 in omega arith;
         blank = free nodes;
       })
