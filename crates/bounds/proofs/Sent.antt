@@ -17,8 +17,8 @@ use Rattle.frames.specs.Frames.{freeFrameIn}
 use Rattle.outcome.specs.declared.notice.Notice.{Notice}
 use Rattle.outcome.specs.Told.{Told, unmap}
 use Rattle.notices.specs.Notices.{rangeChange}
-use Rattle.lookup.specs.declared.Looked.{Looked}
-use Rattle.lookup.specs.declared.Looked.the-variants.{Shared, Zero, Own, New, NoMemory, Stopped}
+use Rattle.lookup.specs.declared.CommitResult.{CommitResult}
+use Rattle.lookup.specs.declared.CommitResult.the-variants.{Ref, Zero, CopyOnWrite, NewPage, NoMemory, Stopped}
 use Rattle.lookup.specs.Work.{workOf, Looking, lookingOf}
 use Rattle.lookup.specs.declared.Place.{Place}
 use Rattle.lookup.specs.Mode.{Mode, today, nodeAt, other, bothAt, haltsAt, asks}
@@ -31,7 +31,7 @@ use Rattle.bounds.proofs.Heard.{Heard, heard-none, heard-pick, object-h
 
 -- a lookup that does the same and sends the same notices whatever the list, at most one for each live mapping, of objects that P holds of
 pub record Sent (M : List ℕ) (P : ℕ → Type 0) (step : Told → Looking) : Type 0 where
-  pub answer : Looked
+  pub answer : CommitResult
   pub pages : List ℕ
   pub used : List ℕ
   pub memory : List ℕ
@@ -40,7 +40,7 @@ pub record Sent (M : List ℕ) (P : ℕ → Type 0) (step : Told → Looking) : 
   pub same : (t : Told) → step t ≡ lookingOf answer (workOf pages used memory (putAll t notices))
 
 module _ {M : List ℕ} where
-  pub sent-none : {P : ℕ → Type 0} (r : Looked) (p u y : List ℕ) → Sent M P (λ t. lookingOf r (workOf p u y t))
+  pub sent-none : {P : ℕ → Type 0} (r : CommitResult) (p u y : List ℕ) → Sent M P (λ t. lookingOf r (workOf p u y t))
   unfolding putAll
   sent-none r p u y = record { answer = r; pages = p; used = u; memory = y; notices = []; once = once-none; same = λ t. refl }
 
@@ -79,7 +79,7 @@ module _ {M : List ℕ} where
       }
 
   -- a step, and then another that goes on from it
-  pub sent-then : {P Q R : ℕ → Type 0} {f : Told → Looking} (g : Looking → Looking) → ((o : ℕ) → P o → Q o → ⊥) → ((o : ℕ) → P o → R o) → ((o : ℕ) → Q o → R o) → Sent M P f → ((r : Looked) (p u y : List ℕ) → Sent M Q (λ t. g (lookingOf r (workOf p u y t)))) → Sent M R (λ t. g (f t))
+  pub sent-then : {P Q R : ℕ → Type 0} {f : Told → Looking} (g : Looking → Looking) → ((o : ℕ) → P o → Q o → ⊥) → ((o : ℕ) → P o → R o) → ((o : ℕ) → Q o → R o) → Sent M P f → ((r : CommitResult) (p u y : List ℕ) → Sent M Q (λ t. g (lookingOf r (workOf p u y t)))) → Sent M R (λ t. g (f t))
   sent-then {P} {Q} {R} {f} g never i j a b =
       let s = b (a .answer) (a .pages) (a .used) (a .memory) in
       let ns = a .notices in
@@ -133,19 +133,19 @@ module _ (L : ℕ) (N M : List ℕ) (p : Place) (write : Bool) where
 
   pub leaf-settles : hiddenOf (nodeAt m p) ≡ false → Settles (λ o. o ≡ p .node)
   unfolding serve leafTold
-  leaf-settles e s q u y due = rw e (sent-after (heard-pick due (object-heard M (p .node) (p .page) (p .page + 1) unmap) heard-none) (sent-none (Shared (s .frame)) q u y))
+  leaf-settles e s q u y due = rw e (sent-after (heard-pick due (object-heard M (p .node) (p .page) (p .page + 1) unmap) heard-none) (sent-none (Ref (s .frame)) q u y))
 
   -- what the parent sends, and then what the node does
 
   module _ {Q : ℕ → Type 0} (settles : Settles Q) where
-    pass-sent : (r : Looked) (q u y : List ℕ) → Sent M Q (λ t. passBy m write p r (workOf q u y t))
+    pass-sent : (r : CommitResult) (q u y : List ℕ) → Sent M Q (λ t. passBy m write p r (workOf q u y t))
     unfolding passBy
-    pass-sent (Shared f) q u y = sent-none _ _ _ _
+    pass-sent (Ref f) q u y = sent-none _ _ _ _
     pass-sent Zero q u y = sent-none _ _ _ _
     pass-sent NoMemory q u y = sent-none _ _ _ _
     pass-sent Stopped q u y = sent-none _ _ _ _
-    pass-sent (New f) q u y = sent-pick (hiddenOf (nodeAt m p)) (sent-none _ _ _ _) (sent-none _ _ _ _)
-    pass-sent (Own f due) q u y = settles (newState f) (withState q (p .node) (p .page) (newState f)) u y due
+    pass-sent (NewPage f) q u y = sent-pick (hiddenOf (nodeAt m p)) (sent-none _ _ _ _) (sent-none _ _ _ _)
+    pass-sent (CopyOnWrite f due) q u y = settles (newState f) (withState q (p .node) (p .page) (newState f)) u y due
 
     pub enter-sent : {P R : ℕ → Type 0} {above : Told → Looking} → ((o : ℕ) → P o → Q o → ⊥) → ((o : ℕ) → P o → R o) → ((o : ℕ) → Q o → R o) → Sent M P above → (q u y : List ℕ) → Sent M R (λ t. enter m write (workOf q u y t) p (above t))
     unfolding enterBy

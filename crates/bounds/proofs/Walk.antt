@@ -14,7 +14,7 @@ use Rattle.tables.specs.Tables.{nodeOf}
 use Rattle.notices.specs.Notices.{rangeChange}
 use Rattle.outcome.specs.Told.{unmap}
 use Rattle.sound.specs.Facts.{Tree}
-use Rattle.lookup.specs.declared.Looked.the-variants.{Stopped}
+use Rattle.lookup.specs.declared.CommitResult.the-variants.{Stopped}
 use Rattle.lookup.specs.Work.{Work, workOf, Looking, lookingOf}
 use Rattle.lookup.specs.declared.Place.{Place}
 use Rattle.lookup.specs.Mode.{Mode, today, placeOf, nodeAt, other, asks}

@@ -13,8 +13,8 @@ use Rattle.entry.specs.declared.Slot.the-variants.{Empty}
 use Rattle.entry.specs.Entry.{newState}
 use Rattle.node.specs.Node.{hiddenOf}
 use Rattle.tables.specs.Tables.{nodeOf, slotAt}
-use Rattle.lookup.specs.declared.Looked.{Looked}
-use Rattle.lookup.specs.declared.Looked.the-variants.{Shared, Zero, Own, New, NoMemory, Stopped}
+use Rattle.lookup.specs.declared.CommitResult.{CommitResult}
+use Rattle.lookup.specs.declared.CommitResult.the-variants.{Ref, Zero, CopyOnWrite, NewPage, NoMemory, Stopped}
 use Rattle.lookup.specs.declared.End.{End}
 use Rattle.lookup.specs.declared.End.the-variants.{Tired}
 use Rattle.lookup.specs.Work.{Work, Looking, lookingOf}
@@ -58,13 +58,13 @@ module _ (N : List ℕ) (G : Ground N) (M : List ℕ) (L F c r : ℕ) (w : Bool)
   is-hidden = eq-eqb (nodeOf N h .kind) 3 (facts .hidden)
 
   -- an answer that ends the lookup is the child's too
-  final-post : (s : Work) (x : Found) (z : Looked) (v : Work) → Final (today L N M) w z → Done N L F s h q x w z v → Done N L F s c r x w z v
-  final-post s x (Shared f) v e d = d
+  final-post : (s : Work) (x : Found) (z : CommitResult) (v : Work) → Final (today L N M) w z → Done N L F s h q x w z v → Done N L F s c r x w z v
+  final-post s x (Ref f) v e d = d
   final-post s x Zero v e d = d
   final-post s x NoMemory v e d = d
   final-post s x Stopped v e d = d
-  final-post s x (Own f u) v e d = absurd e
-  final-post s x (New f) v e d = absurd e
+  final-post s x (CopyOnWrite f u) v e d = absurd e
+  final-post s x (NewPage f) v e d = absurd e
 
   -- the parent handed the node frame f
   module _ (x : Found) (s : Work) (o : Ok N L F s) (bare : slotAt (s .pages) c r ≡ Empty) (p : Work) (f : ℕ) (d : Handed N L F s h q x w f p)
@@ -127,9 +127,9 @@ ask N G M L F s c r x w o a bare near z never (rests b l e) =
     let t = ask N G M L F s (linksOf N .par c) (linksOf N .start c + r) x w o (sym (asks-same L N M _ _ c) ∙ b .on) (b .empty) (beyond N G M L F c r w a (b .empty) near) z never l in
     record { still = λ i j out. t .still i j (λ v. out (higher a v)); done = final-post N G M L F c r w a s x (z .answer) (z .work) e (t .done) }
 ask N G M L F s c r x w o a bare near z never (falls f v b l i e) =
-    let t = ask N G M L F s (linksOf N .par c) (linksOf N .start c + r) x w o (sym (asks-same L N M _ _ c) ∙ b .on) (b .empty) (beyond N G M L F c r w a (b .empty) near) (lookingOf (New f) v) never l in
+    let t = ask N G M L F s (linksOf N .par c) (linksOf N .start c + r) x w o (sym (asks-same L N M _ _ c) ∙ b .on) (b .empty) (beyond N G M L F c r w a (b .empty) near) (lookingOf (NewPage f) v) never l in
     rw e (record { still = λ i j out. t .still i j (λ v. out (higher a v)); done = t .done })
 ask N G M L F s c r x w o a bare near z never (lands f v b l i e) = true-not (is-hidden N G M L F c r w a) i
 ask N G M L F s c r x w o a bare near z never (takes f u v b l t) =
-    let p = ask N G M L F s (linksOf N .par c) (linksOf N .start c + r) x w o (sym (asks-same L N M _ _ c) ∙ b .on) (b .empty) (beyond N G M L F c r w a (b .empty) near) (lookingOf (Own f u) v) never l in
+    let p = ask N G M L F s (linksOf N .par c) (linksOf N .start c + r) x w o (sym (asks-same L N M _ _ c) ∙ b .on) (b .empty) (beyond N G M L F c r w a (b .empty) near) (lookingOf (CopyOnWrite f u) v) never l in
     own-post N G M L F c r w a x s o bare v f (p .done) (p .still) t

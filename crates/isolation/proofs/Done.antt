@@ -13,8 +13,8 @@ use Rattle.entry.specs.declared.Slot.{Slot}
 use Rattle.entry.specs.declared.Slot.the-variants.{Empty, Held}
 use Rattle.tables.specs.Tables.{slotAt}
 use Rattle.frames.specs.Frames.{freeFrameIn, clearedAt}
-use Rattle.lookup.specs.declared.Looked.{Looked}
-use Rattle.lookup.specs.declared.Looked.the-variants.{Shared, Zero, Own, New, NoMemory, Stopped}
+use Rattle.lookup.specs.declared.CommitResult.{CommitResult}
+use Rattle.lookup.specs.declared.CommitResult.the-variants.{Ref, Zero, CopyOnWrite, NewPage, NoMemory, Stopped}
 use Rattle.lookup.specs.Work.{Work, workOf, Looking}
 use Rattle.lookup.specs.Level.{kept}
 use Rattle.sound.specs.Facts.{Holds}
@@ -57,10 +57,10 @@ pub record Short (N : List ℕ) (L F : ℕ) (s : Work) (w : Bool) (s′ : Work) 
   pub step : Step N L F s s′
   pub no-frame : freeFrameIn (s′ .used) ≡ Nothing
 
-abbrev pub Done : (N : List ℕ) (L F : ℕ) (s : Work) (c r : ℕ) (x : Found) (w : Bool) → Looked → Work → Type 0
-Done N L F s c r x w (Shared f) s′ = Lent N L F s x w f s′
-Done N L F s c r x w (Own f u) s′ = Handed N L F s c r x w f s′
-Done N L F s c r x w (New g) s′ = Fresh L s x w g s′
+abbrev pub Done : (N : List ℕ) (L F : ℕ) (s : Work) (c r : ℕ) (x : Found) (w : Bool) → CommitResult → Work → Type 0
+Done N L F s c r x w (Ref f) s′ = Lent N L F s x w f s′
+Done N L F s c r x w (CopyOnWrite f u) s′ = Handed N L F s c r x w f s′
+Done N L F s c r x w (NewPage g) s′ = Fresh L s x w g s′
 Done N L F s c r x w Zero s′ = Bare s x w s′
 Done N L F s c r x w NoMemory s′ = Short N L F s w s′
 Done N L F s c r x w Stopped s′ = ⊥
@@ -81,12 +81,12 @@ pub record Denied (w : Bool) (s′ : Work) : Type 0 where
   pub writing : w ≡ true
   pub no-frame : freeFrameIn (s′ .used) ≡ Nothing
 
-abbrev pub Says : (L F : ℕ) (s : Work) (l p : ℕ) (x : Found) (w : Bool) → Looked → Work → Type 0
-Says L F s l p x w (Shared f) s′ = Yields L F s l p x w f s′
+abbrev pub Says : (L F : ℕ) (s : Work) (l p : ℕ) (x : Found) (w : Bool) → CommitResult → Work → Type 0
+Says L F s l p x w (Ref f) s′ = Yields L F s l p x w f s′
 Says L F s l p x w Zero s′ = Bare s x w s′
 Says L F s l p x w NoMemory s′ = Denied w s′
-Says L F s l p x w (Own f u) s′ = ⊥
-Says L F s l p x w (New g) s′ = ⊥
+Says L F s l p x w (CopyOnWrite f u) s′ = ⊥
+Says L F s l p x w (NewPage g) s′ = ⊥
 Says L F s l p x w Stopped s′ = ⊥
 
 pub record Served (N : List ℕ) (L F : ℕ) (s : Work) (l p : ℕ) (x : Found) (w : Bool) (z : Looking) : Type 0 where

@@ -15,7 +15,7 @@ use Rattle.entry.specs.Entry.{splitOf}
 use Rattle.tables.specs.Tables.{nodeOf, slotAt}
 use Rattle.frames.specs.Frames.{freeFrameIn}
 use Rattle.outcome.specs.Told.{Told}
-use Rattle.lookup.specs.declared.Looked.the-variants.{Shared, Own, NoMemory}
+use Rattle.lookup.specs.declared.CommitResult.the-variants.{Ref, CopyOnWrite, NoMemory}
 use Rattle.lookup.specs.Work.{Work, Looking, lookingOf}
 use Rattle.lookup.specs.Mode.{today, placeOf}
 use Rattle.lookup.specs.Level.{withTold, without, copyAt, childTold}
@@ -60,7 +60,7 @@ module _ (N : List ℕ) (G : Ground N) (L F : ℕ) (c r : ℕ) (a₀ : linksOf N
     source : (Y : List ℕ) (y : Found) → Alike L (s .memory) Y (At (e .frame)) y → Alike L (s .memory) Y x y
     source Y y k = rw (over-by e over near .1) k
 
-    move-post : (t : Told) (u : Bool) → (linksOf N .both c r ≡ true → splitOf (e .tag) ≡ true) → Post N L F s c r x w (lookingOf (Own (e .frame) u) (without (withTold s t) h q))
+    move-post : (t : Told) (u : Bool) → (linksOf N .both c r ≡ true → splitOf (e .tag) ≡ true) → Post N L F s c r x w (lookingOf (CopyOnWrite (e .frame) u) (without (withTold s t) h q))
     move-post t u g =
         let m = moved N G L F c r a₀ s t e o over tag-not g in
         record {
@@ -74,7 +74,7 @@ module _ (N : List ℕ) (G : Ground N) (L F : ℕ) (c r : ℕ) (a₀ : linksOf N
           };
         }
 
-    copy-post : (t : Told) (g : ℕ) → freeFrameIn (s .used) ≡ At g → w ≡ true → Post N L F s c r x w (lookingOf (Own g true) (copyAt (today L N M) (placeOf h q c) e g (withTold s t)))
+    copy-post : (t : Told) (g : ℕ) → freeFrameIn (s .used) ≡ At g → w ≡ true → Post N L F s c r x w (lookingOf (CopyOnWrite g true) (copyAt (today L N M) (placeOf h q c) e g (withTold s t)))
     copy-post t g f k =
         let m = parted N G L F c r a₀ s t e o over tag-not g f in
         record {
@@ -91,7 +91,7 @@ module _ (N : List ℕ) (G : Ground N) (L F : ℕ) (c r : ℕ) (a₀ : linksOf N
     deny-post : (t : Told) → freeFrameIn (s .used) ≡ Nothing → w ≡ true → Post N L F s c r x w (lookingOf NoMemory (withTold s t))
     deny-post t f k = record { still = λ a b out. refl; done = record { writing = k; step = step-same N G L F s t o; no-frame = f } }
 
-    lend-post : (t : Told) → w ≡ false → Post N L F s c r x w (lookingOf (Shared (e .frame)) (withTold s t))
+    lend-post : (t : Told) → w ≡ false → Post N L F s c r x w (lookingOf (Ref (e .frame)) (withTold s t))
     lend-post t k =
         record {
           still = λ a b out. refl;

@@ -13,8 +13,8 @@ use Rattle.entry.specs.Entry.{newState}
 use Rattle.node.specs.Node.{hiddenOf, outOf}
 use Rattle.tables.specs.Tables.{nodeOf, slotAt}
 use Rattle.frames.specs.Frames.{freeFrameIn}
-use Rattle.lookup.specs.declared.Looked.{Looked}
-use Rattle.lookup.specs.declared.Looked.the-variants.{Shared, Zero, Own, New, NoMemory, Stopped}
+use Rattle.lookup.specs.declared.CommitResult.{CommitResult}
+use Rattle.lookup.specs.declared.CommitResult.the-variants.{Ref, Zero, CopyOnWrite, NewPage, NoMemory, Stopped}
 use Rattle.lookup.specs.Work.{Work, Looking, lookingOf}
 use Rattle.lookup.specs.declared.End.{End}
 use Rattle.lookup.specs.declared.End.the-variants.{Tired}
@@ -73,9 +73,9 @@ module _ (N : List ℕ) (G : Ground N) (M : List ℕ) (L F : ℕ) (l p : ℕ) (l
   serves-served q e t h b f only d (lends n k i j z) = true-not n not-hidden
 
   -- a cleared frame, which the leaf keeps
-  fresh-served : (g : ℕ) (q : Work) → slotAt (s .pages) l p ≡ Empty → Fresh L s x w g q → Served N L F s l p x w (lookingOf (Shared g) (kept q l p g))
+  fresh-served : (g : ℕ) (q : Work) → slotAt (s .pages) l p ≡ Empty → Fresh L s x w g q → Served N L F s l p x w (lookingOf (Ref g) (kept q l p g))
   fresh-served g q bare d =
-      subst (λ (v : Work). Served N L F s l p x w (lookingOf (Shared g) (kept v l p g))) (sym (d .result))
+      subst (λ (v : Work). Served N L F s l p x w (lookingOf (Ref g) (kept v l p g))) (sym (d .result))
       (record {
         step = fresh-step N G L F l p leaf size s o bare zero-view g (d .free);
         only = λ a b ne out. others at-leaf a b ne;
@@ -97,8 +97,8 @@ module _ (N : List ℕ) (G : Ground N) (M : List ℕ) (L F : ℕ) (l p : ℕ) (l
       at-leaf = kept-wrote N G L F s l p g (o .pages) size (let k = o .few in let i = in-F in omega arith)
 
   -- an answer of the parent's that ends the lookup
-  final-served : (z : Looked) (q : Work) → Final (today L N M) w z → Post N L F s l p x w (lookingOf z q) → Served N L F s l p x w (lookingOf z q)
-  final-served (Shared f) q e d =
+  final-served : (z : CommitResult) (q : Work) → Final (today L N M) w z → Post N L F s l p x w (lookingOf z q) → Served N L F s l p x w (lookingOf z q)
+  final-served (Ref f) q e d =
       let t = d .done in
       record { step = t .step; only = λ a b ne out. d .still a b out; says = record { bytes = t .bytes; frame = t .frame; own = λ k. true-not k (t .reading); untaken = λ k. t .untaken } }
   final-served Zero q e d =
@@ -107,8 +107,8 @@ module _ (N : List ℕ) (G : Ground N) (M : List ℕ) (L F : ℕ) (l p : ℕ) (l
       (record { step = step-same N G L F s (s .told) o; only = λ a b ne out. refl; says = record { reading = t .reading; nothing = t .nothing; same = refl } })
   final-served NoMemory q e d = let t = d .done in record { step = t .step; only = λ a b ne out. d .still a b out; says = record { writing = t .writing; no-frame = t .no-frame } }
   final-served Stopped q e d = absurd (d .done)
-  final-served (Own f u) q e d = absurd e
-  final-served (New f) q e d = absurd e
+  final-served (CopyOnWrite f u) q e d = absurd e
+  final-served (NewPage f) q e d = absurd e
 
   no-more : linksOf N .asks l p ≡ false → Near (linksOf N) (slotAt (s .pages)) l p x → x ≡ Nothing
   no-more z (none a e) = e
@@ -136,9 +136,9 @@ module _ (N : List ℕ) (G : Ground N) (M : List ℕ) (L F : ℕ) (l p : ℕ) (l
   served z never (quits b e) = absurd (never refl)
   served z never (rests b k e) = final-served (z .answer) (z .work) e (parent-post z never b k)
   served z never (falls f v b k h e) = true-not h not-hidden
-  served z never (lands f v b k h e) = rw e (fresh-served f v (b .empty) (parent-post (lookingOf (New f) v) never b k .done))
+  served z never (lands f v b k h e) = rw e (fresh-served f v (b .empty) (parent-post (lookingOf (NewPage f) v) never b k .done))
   served z never (takes f u v b k t) =
-      let d = parent-post (lookingOf (Own f u) v) never b k in
+      let d = parent-post (lookingOf (CopyOnWrite f u) v) never b k in
       let m = d .done in
       let wrote = kept-wrote N G L F v l p f (m .pages) size (let k = o .few in let i = m .frame in omega arith) in
       serves-served (kept v l p f) (newState f) (m .step) (wrote .same) (m .bytes) (m .frame) (λ a b ne out. others wrote a b ne ∙ d .still a b out) (m .untaken) t

@@ -7,8 +7,8 @@ use Rattle.logic.specs.declared.Found.{Found}
 use Rattle.tables.specs.Pool.{Pool}
 use Rattle.tables.specs.Tables.{nodeOf}
 use Rattle.outcome.specs.Told.{Told}
-use Rattle.lookup.specs.declared.Looked.{Looked}
-use Rattle.lookup.specs.declared.Looked.the-variants.{Shared, Zero, Own, New, NoMemory, Stopped}
+use Rattle.lookup.specs.declared.CommitResult.{CommitResult}
+use Rattle.lookup.specs.declared.CommitResult.the-variants.{Ref, Zero, CopyOnWrite, NewPage, NoMemory, Stopped}
 use Rattle.lookup.specs.Work.{Work, lookingOf}
 use Rattle.lookup.specs.Mode.{today, placeOf}
 use Rattle.lookup.specs.Lookup.{lookIn}
@@ -68,9 +68,9 @@ module _ (L : ℕ) (A : ℕ → ℕ → ℕ → ℕ) (p : Pool) (P : Private L A
     shown : Shows L p l i (A l i)
     shown = P .shows l i leaf low
 
-    answered : (z : Looked) (w : Work) → Step (p .nodes) L (length (p .used)) (workIn p t) w → (write ≡ true → Pays (need (p .nodes) (p .pages) l i) (workIn p t) (lookingOf z w))
+    answered : (z : CommitResult) (w : Work) → Step (p .nodes) L (length (p .used)) (workIn p t) w → (write ≡ true → Pays (need (p .nodes) (p .pages) l i) (workIn p t) (lookingOf z w))
         → Says L (length (p .used)) (workIn p t) l i (shown .source) write z w → Answered L p t l i (A l i) write (committedBy z) w
-    answered (Shared f) w s c d =
+    answered (Ref f) w s c d =
         record {
           bytes = λ k h. d .bytes k h ∙ shown .bytes k h;
           frame = rw (s .ok .used) (d .frame);
@@ -82,8 +82,8 @@ module _ (L : ℕ) (A : ℕ → ℕ → ℕ → ℕ) (p : Pool) (P : Private L A
         let e = d .nothing in
         record { reading = d .reading; bytes = λ k h. sym (shown .bytes k h) ∙ ap (λ (x : Found). byteOf L (p .memory) x k) e; same = d .same }
     answered NoMemory w s c d = record { answer = refl; writing = d .writing; short = pays-refuses (c (d .writing)) .0; no-frame = d .no-frame }
-    answered (Own f u) w s c d = absurd d
-    answered (New g) w s c d = absurd d
+    answered (CopyOnWrite f u) w s c d = absurd d
+    answered (NewPage g) w s c d = absurd d
     answered Stopped w s c d = absurd d
 
     pub look-keeps : Kept L A p t l i write (commitLeaf L (p .nodes) (p .mappings) (workIn p t) l i write)

@@ -6,8 +6,8 @@ use Prim.Native.Nat.{ℕ}
 use native.Mathlib.Omega.{arith}
 use Rattle.logic.specs.declared.Found.{Found}
 use Rattle.logic.specs.declared.Found.the-variants.{At, Nothing}
-use Rattle.lookup.specs.declared.Looked.{Looked}
-use Rattle.lookup.specs.declared.Looked.the-variants.{Shared, Zero, Own, New, NoMemory, Stopped}
+use Rattle.lookup.specs.declared.CommitResult.{CommitResult}
+use Rattle.lookup.specs.declared.CommitResult.the-variants.{Ref, Zero, CopyOnWrite, NewPage, NoMemory, Stopped}
 use Rattle.lookup.specs.Work.{Work}
 use Rattle.lookup.specs.Level.{kept}
 use Rattle.isolation.proofs.Wood.{Ground}
@@ -20,8 +20,8 @@ at-not e = let z : _≡_ {A = ℕ} 0 1 = cc in absurd (omega arith)
 -- what comes from a state to which a frame was handed: the frame f of p stood at the node, and the node then answered its child
 module _ (N : List ℕ) (G : Ground N) (L F : ℕ) (s s₁ : Work) (x : Found) (w : Bool) (f c r : ℕ) (step : Step N L F s s₁) (bytes : Alike L (s .memory) (s₁ .memory) x (At f))
     (untaken : w ≡ false → s₁ .used ≡ s .used) where
-  pub done-then : (z : Looked) (s₂ : Work) → Done N L F s₁ c r (At f) w z s₂ → Done N L F s c r x w z s₂
-  done-then (Shared g) s₂ d =
+  pub done-then : (z : CommitResult) (s₂ : Work) → Done N L F s₁ c r (At f) w z s₂ → Done N L F s c r x w z s₂
+  done-then (Ref g) s₂ d =
       record {
         reading = d .reading;
         step = step-then N G L F s s₁ s₂ step (d .step);
@@ -29,7 +29,7 @@ module _ (N : List ℕ) (G : Ground N) (L F : ℕ) (s s₁ : Work) (x : Found) (
         frame = d .frame;
         untaken = d .untaken ∙ untaken (d .reading);
       }
-  done-then (Own g u) s₂ d =
+  done-then (CopyOnWrite g u) s₂ d =
       record {
         step = step-then N G L F s s₁ (kept s₂ c r g) step (d .step);
         pages = d .pages;
@@ -37,7 +37,7 @@ module _ (N : List ℕ) (G : Ground N) (L F : ℕ) (s s₁ : Work) (x : Found) (
         frame = d .frame;
         untaken = λ k. d .untaken k ∙ untaken k;
       }
-  done-then (New g) s₂ d = at-not (d .nothing)
+  done-then (NewPage g) s₂ d = at-not (d .nothing)
   done-then Zero s₂ d = at-not (d .nothing)
   done-then NoMemory s₂ d = record { writing = d .writing; step = step-then N G L F s s₁ s₂ step (d .step); no-frame = d .no-frame }
   done-then Stopped s₂ d = absurd d

@@ -13,8 +13,8 @@ use Rattle.node.specs.declared.Node.{Node}
 use Rattle.node.specs.Node.{hiddenOf, outOf}
 use Rattle.tables.specs.Tables.{nodeOf}
 use Rattle.frames.specs.Frames.{freeFrameIn}
-use Rattle.lookup.specs.declared.Looked.{Looked}
-use Rattle.lookup.specs.declared.Looked.the-variants.{Shared, Zero, Own, New, NoMemory, Stopped}
+use Rattle.lookup.specs.declared.CommitResult.{CommitResult}
+use Rattle.lookup.specs.declared.CommitResult.the-variants.{Ref, Zero, CopyOnWrite, NewPage, NoMemory, Stopped}
 use Rattle.lookup.specs.declared.Place.{Place}
 use Rattle.lookup.specs.declared.End.{End}
 use Rattle.lookup.specs.declared.End.the-variants.{Has, Bare, Tired}
@@ -31,7 +31,7 @@ module _ (m : Mode) (write : Bool) where
   unfolding descent
   down-none d p g e = rw e
 
-  pub down-next : (d : ℕ) (p : Place) (g : Looking) {n : Node} {q : Place} {a : Looked} {w : Work} {r : Looking} → 0 < d → n ≡ nodeAt m p → q ≡ upFrom n p → lookingOf a w ≡ descent m write (d - 1) q g → r ≡ passBy m write p a w → r ≡ descent m write d p g
+  pub down-next : (d : ℕ) (p : Place) (g : Looking) {n : Node} {q : Place} {a : CommitResult} {w : Work} {r : Looking} → 0 < d → n ≡ nodeAt m p → q ≡ upFrom n p → lookingOf a w ≡ descent m write (d - 1) q g → r ≡ passBy m write p a w → r ≡ descent m write d p g
   unfolding descent
   down-next d p g {n} {q} {a} {w} pos e u s r =
       let one : suc (d - 1) ≡ d = omega arith in
@@ -39,12 +39,12 @@ module _ (m : Mode) (write : Bool) where
       let t : lookingOf a w ≡ descent m write (d - 1) (up m p) g = rw (← z) s in
       r ∙ ap (pass m write p) t ∙ ap (λ (k : ℕ). descent m write k p g) one
 
-  pub down-final : (d : ℕ) (p : Place) {a : Looked} (w : Work) → Final m write a → lookingOf a w ≡ descent m write d p (lookingOf a w)
+  pub down-final : (d : ℕ) (p : Place) {a : CommitResult} (w : Work) → Final m write a → lookingOf a w ≡ descent m write d p (lookingOf a w)
   down-final d p {a} w f = sym (descent-final m write d p a w f)
 
   -- where all nodes above p are hidden, a cleared frame passes them, and p keeps it
   module _ (g : ℕ) (v : Work) where
-    falls : (d : ℕ) (q : Place) → ((j : ℕ) → j < d → hiddenOf (nodeAt m (ups m j q)) ≡ true) → descent m write d q (lookingOf (New g) v) ≡ lookingOf (New g) v
+    falls : (d : ℕ) (q : Place) → ((j : ℕ) → j < d → hiddenOf (nodeAt m (ups m j q)) ≡ true) → descent m write d q (lookingOf (NewPage g) v) ≡ lookingOf (NewPage g) v
     unfolding descent ups passBy
     falls zero q h = refl
     falls (suc d) q h = ap (pass m write q) (falls d (up m q) (λ j l. h (suc j) (omega arith))) ∙ rw (h 0 (omega arith))
@@ -89,7 +89,7 @@ module _ (N M : List ℕ) (write : Bool) (w : Work) (d : ℕ) (p q : Place) (the
       by true false true t = let z : _≡_ {A = ℕ} 0 1 = cc in absurd (omega arith)
       by false b o t = let z : _≡_ {A = ℕ} 0 1 = cc in absurd (omega arith)
 
-  pub brings : {b : Bool} {a : Looked} {v : Work} {r : Looking} → b ≡ hiddenOf o → lookingOf a v ≡ freshIn 4096 write w q b out → r ≡ descent (today 4096 N M) write d p (lookingOf a v) → r ≡ descent (today 4096 N M) write d p (fresh (today 4096 N M) write w q)
+  pub brings : {b : Bool} {a : CommitResult} {v : Work} {r : Looking} → b ≡ hiddenOf o → lookingOf a v ≡ freshIn 4096 write w q b out → r ≡ descent (today 4096 N M) write d p (lookingOf a v) → r ≡ descent (today 4096 N M) write d p (fresh (today 4096 N M) write w q)
   brings y c r = r ∙ ap (descent (today 4096 N M) write d p) (c ∙ rw (y, k, f))
 
 -- the lookup, by the walk's end

@@ -3,8 +3,8 @@ use mathlib.Core.Path.{_≡_, refl, ap, _∙_}
 use mathlib.Core.Bool.{Bool}
 use native.Mathlib.Omega.{arith}
 use Prim.Native.Nat.{ℕ, zero, suc, _+_}
-use Rattle.lookup.specs.declared.Looked.{Looked}
-use Rattle.lookup.specs.declared.Looked.the-variants.{Shared, Zero, Own, New, NoMemory, Stopped}
+use Rattle.lookup.specs.declared.CommitResult.{CommitResult}
+use Rattle.lookup.specs.declared.CommitResult.the-variants.{Ref, Zero, CopyOnWrite, NewPage, NoMemory, Stopped}
 use Rattle.lookup.specs.Work.{Work, Looking, lookingOf}
 use Rattle.lookup.specs.declared.Place.{Place}
 use Rattle.lookup.specs.Mode.{Mode, up, ups}
@@ -18,24 +18,24 @@ module _ (m : Mode) (write : Bool) where
   descent-join zero b p g = let z : 0 + b ≡ b = omega arith in rw z
   descent-join (suc a) b p g = let z : suc a + b ≡ suc (a + b) = omega arith in rw z (ap (pass m write p) (descent-join a b (up m p) g))
 
-  abbrev pub Final : Looked → Type 0
-  Final (Shared f) = Unit
+  abbrev pub Final : CommitResult → Type 0
+  Final (Ref f) = Unit
   Final Zero = Unit
   Final NoMemory = Unit
   Final Stopped = Unit
-  Final (Own f u) = ⊥
-  Final (New f) = ⊥
+  Final (CopyOnWrite f u) = ⊥
+  Final (NewPage f) = ⊥
 
-  pass-final : (p : Place) (r : Looked) (w : Work) → Final r → passBy m write p r w ≡ lookingOf r w
+  pass-final : (p : Place) (r : CommitResult) (w : Work) → Final r → passBy m write p r w ≡ lookingOf r w
   unfolding passBy
-  pass-final p (Shared f) w h = refl
+  pass-final p (Ref f) w h = refl
   pass-final p Zero w h = refl
   pass-final p NoMemory w h = refl
   pass-final p Stopped w h = refl
-  pass-final p (Own f u) w h = absurd h
-  pass-final p (New f) w h = absurd h
+  pass-final p (CopyOnWrite f u) w h = absurd h
+  pass-final p (NewPage f) w h = absurd h
 
-  pub descent-final : (d : ℕ) (p : Place) (r : Looked) (w : Work) → Final r → descent m write d p (lookingOf r w) ≡ lookingOf r w
+  pub descent-final : (d : ℕ) (p : Place) (r : CommitResult) (w : Work) → Final r → descent m write d p (lookingOf r w) ≡ lookingOf r w
   unfolding descent
   descent-final zero p r w h = refl
   descent-final (suc d) p r w h = ap (pass m write p) (descent-final d (up m p) r w h) ∙ pass-final p r w h

@@ -19,8 +19,8 @@ use Rattle.tables.specs.Tables.{nodeOf, withState, withoutState}
 use Rattle.frames.specs.Frames.{freeFrameIn, takenOf, givenOf, clearedAt, copiedAt}
 use Rattle.outcome.specs.Told.{Told}
 use Rattle.notices.specs.Notices.{childOf}
-use Rattle.lookup.specs.declared.Looked.{Looked}
-use Rattle.lookup.specs.declared.Looked.the-variants.{Shared, Zero, Own, New, NoMemory, Stopped}
+use Rattle.lookup.specs.declared.CommitResult.{CommitResult}
+use Rattle.lookup.specs.declared.CommitResult.the-variants.{Ref, Zero, CopyOnWrite, NewPage, NoMemory, Stopped}
 use Rattle.lookup.specs.declared.Place.{Place}
 use Rattle.lookup.specs.Work.{Work, workOf, Looking, lookingOf}
 use Rattle.lookup.specs.Mode.{Mode, today}
@@ -42,15 +42,15 @@ module _ (P U M : List ℕ) (p : Place) (hidden halts : Bool) {f : Found} {U′ 
     unfolding freshIn freshBy
     fresh-stop h o v = rw (w, sym e ∙ g, h, o, v, u, g, m)
 
-    pub fresh-new : hidden ≡ true → halts ≡ false → lookingOf (New k) (workOf P U′ M′ t) ≡ freshIn 4096 write (workOf P U M t) p hidden halts
+    pub fresh-new : hidden ≡ true → halts ≡ false → lookingOf (NewPage k) (workOf P U′ M′ t) ≡ freshIn 4096 write (workOf P U M t) p hidden halts
     unfolding freshIn freshBy cleared
     fresh-new h o = rw (w, sym e ∙ g, h, o, u, g, m)
 
-    pub fresh-kept : {s : PageState} {P′ : List ℕ} → hidden ≡ false → s ≡ newState k → P′ ≡ withState P (p .node) (p .page) s → lookingOf (Shared k) (workOf P′ U′ M′ t) ≡ freshIn 4096 write (workOf P U M t) p hidden halts
+    pub fresh-kept : {s : PageState} {P′ : List ℕ} → hidden ≡ false → s ≡ newState k → P′ ≡ withState P (p .node) (p .page) s → lookingOf (Ref k) (workOf P′ U′ M′ t) ≡ freshIn 4096 write (workOf P U M t) p hidden halts
     unfolding freshIn freshBy cleared
     fresh-kept h a b = rw (w, sym e ∙ g, h, u, g, m, b, a) (by halts)
       where
-        by : (o : Bool) → lookingOf (Shared k) (workOf (withState P (p .node) (p .page) (newState k)) (set U k 1) (clearedAt 4096 M k) t) ≡ freshBy 4096 (At k) (workOf P U M t) p false o
+        by : (o : Bool) → lookingOf (Ref k) (workOf (withState P (p .node) (p .page) (newState k)) (set U k 1) (clearedAt 4096 M k) t) ≡ freshBy 4096 (At k) (workOf P U M t) p false o
         by true = refl
         by false = refl
 
@@ -62,12 +62,12 @@ module _ (N M P U Y : List ℕ) (p : Place) (s : PageState) (tag : PageStateTag)
     unfolding copyBy childTold
     copy-none g = rw (sym e ∙ g, u, g)
 
-    pub copy-done : {k : ℕ} {Y′ P′ : List ℕ} {s′ : PageState} → f ≡ At k → Y′ ≡ copiedAt 4096 Y k (s .frame) → s′ ≡ taggedOf s tag → P′ ≡ withState P (p .node) (p .page) s′ → lookingOf (Own k true) (workOf P′ U′ Y′ t) ≡ copyBy (today 4096 N M) p s unmap (freeFrameIn U) (workOf P U Y t)
+    pub copy-done : {k : ℕ} {Y′ P′ : List ℕ} {s′ : PageState} → f ≡ At k → Y′ ≡ copiedAt 4096 Y k (s .frame) → s′ ≡ taggedOf s tag → P′ ≡ withState P (p .node) (p .page) s′ → lookingOf (CopyOnWrite k true) (workOf P′ U′ Y′ t) ≡ copyBy (today 4096 N M) p s unmap (freeFrameIn U) (workOf P U Y t)
     unfolding copyBy
     copy-done g m a b = rw (sym e ∙ g, u, g, m, b, a, d)
 
   module _ (write unmap : Bool) {a : Bool} (k : a ≡ splitOf (s .tag)) where
-    pub share-split : {P′ : List ℕ} → a ≡ true → P′ ≡ withoutState P (p .node) (p .page) → lookingOf (Own (s .frame) unmap) (workOf P′ U Y t) ≡ shareIn (today 4096 N M) write p s unmap (workOf P U Y t)
+    pub share-split : {P′ : List ℕ} → a ≡ true → P′ ≡ withoutState P (p .node) (p .page) → lookingOf (CopyOnWrite (s .frame) unmap) (workOf P′ U Y t) ≡ shareIn (today 4096 N M) write p s unmap (workOf P U Y t)
     unfolding shareIn
     share-split h q = rw (sym k ∙ h, q)
 
@@ -75,7 +75,7 @@ module _ (N M P U Y : List ℕ) (p : Place) (s : PageState) (tag : PageStateTag)
     unfolding shareIn
     share-copy h b w q = rw (sym k ∙ h, d, rw b at w) q
 
-    pub share-same : {b : Bool} → a ≡ false → b ≡ splitOf tag → (write && b) ≡ false → lookingOf (Shared (s .frame)) (workOf P U Y t) ≡ shareIn (today 4096 N M) write p s unmap (workOf P U Y t)
+    pub share-same : {b : Bool} → a ≡ false → b ≡ splitOf tag → (write && b) ≡ false → lookingOf (Ref (s .frame)) (workOf P U Y t) ≡ shareIn (today 4096 N M) write p s unmap (workOf P U Y t)
     unfolding shareIn
     share-same h b w = rw (sym k ∙ h, d, rw b at w)
 
@@ -86,7 +86,7 @@ window-low n i e h = ltb-true i (n .«parent_limit») (and-right (leb (n .«pare
 -- the page at the node
 
 module _ (N M P U Y : List ℕ) (write : Bool) (p : Place) (s : PageState) (unmap : Bool) (t : Told) {n : Node} {h : Bool} (e : n ≡ nodeOf N (p .node)) (f : h ≡ hiddenOf n) where
-  pub serve-leaf : {t′ : Told} → h ≡ false → t′ ≡ leafTold M (p .node) (p .page) unmap t → lookingOf (Shared (s .frame)) (workOf P U Y t′) ≡ serve (today 4096 N M) write p s unmap (workOf P U Y t)
+  pub serve-leaf : {t′ : Told} → h ≡ false → t′ ≡ leafTold M (p .node) (p .page) unmap t → lookingOf (Ref (s .frame)) (workOf P U Y t′) ≡ serve (today 4096 N M) write p s unmap (workOf P U Y t)
   unfolding serve
   serve-leaf g a = rw (← e, sym f ∙ g, a)
 
@@ -95,7 +95,7 @@ module _ (N M P U Y : List ℕ) (write : Bool) (p : Place) (s : PageState) (unma
     unfolding serve
     serve-shares y a r = rw (← e, sym f ∙ g, ← d, ← c, ← q, sym x ∙ y, ← a) r
 
-    pub serve-hands : {P′ : List ℕ} → b ≡ false → P′ ≡ withoutState P (p .node) (p .page) → lookingOf (Own (s .frame) unmap) (workOf P′ U Y t) ≡ serve (today 4096 N M) write p s unmap (workOf P U Y t)
+    pub serve-hands : {P′ : List ℕ} → b ≡ false → P′ ≡ withoutState P (p .node) (p .page) → lookingOf (CopyOnWrite (s .frame) unmap) (workOf P′ U Y t) ≡ serve (today 4096 N M) write p s unmap (workOf P U Y t)
     unfolding serve
     serve-hands y a = rw (← e, sym f ∙ g, ← d, ← c, ← q, sym x ∙ y, a)
 
@@ -104,8 +104,8 @@ side-tag N p e d = rw (← e, ← d)
 
 -- what the parent answered
 
-module _ (m : Mode) (write : Bool) (p : Place) {above : Looked} (w : Work) where
-  pub pass-shared : {f : ℕ} → above ≡ Shared f → lookingOf above w ≡ passBy m write p above w
+module _ (m : Mode) (write : Bool) (p : Place) {above : CommitResult} (w : Work) where
+  pub pass-shared : {f : ℕ} → above ≡ Ref f → lookingOf above w ≡ passBy m write p above w
   unfolding passBy
   pass-shared h = rw h
 
@@ -121,15 +121,15 @@ module _ (m : Mode) (write : Bool) (p : Place) {above : Looked} (w : Work) where
   unfolding passBy
   pass-stopped h = rw h
 
-module _ (N M P U Y : List ℕ) (write : Bool) (p : Place) {above : Looked} (t : Told) where
-  pub pass-new : {f : ℕ} {n : Node} {b : Bool} → above ≡ New f → n ≡ nodeOf N (p .node) → b ≡ hiddenOf n → b ≡ true → lookingOf (New f) (workOf P U Y t) ≡ passBy (today 4096 N M) write p above (workOf P U Y t)
+module _ (N M P U Y : List ℕ) (write : Bool) (p : Place) {above : CommitResult} (t : Told) where
+  pub pass-new : {f : ℕ} {n : Node} {b : Bool} → above ≡ NewPage f → n ≡ nodeOf N (p .node) → b ≡ hiddenOf n → b ≡ true → lookingOf (NewPage f) (workOf P U Y t) ≡ passBy (today 4096 N M) write p above (workOf P U Y t)
   unfolding passBy
   pass-new h e k g = rw (h, ← e, sym k ∙ g)
 
-  pub pass-kept : {f : ℕ} {n : Node} {b : Bool} {s : PageState} {P′ : List ℕ} → above ≡ New f → n ≡ nodeOf N (p .node) → b ≡ hiddenOf n → b ≡ false → s ≡ newState f → P′ ≡ withState P (p .node) (p .page) s → lookingOf (Shared f) (workOf P′ U Y t) ≡ passBy (today 4096 N M) write p above (workOf P U Y t)
+  pub pass-kept : {f : ℕ} {n : Node} {b : Bool} {s : PageState} {P′ : List ℕ} → above ≡ NewPage f → n ≡ nodeOf N (p .node) → b ≡ hiddenOf n → b ≡ false → s ≡ newState f → P′ ≡ withState P (p .node) (p .page) s → lookingOf (Ref f) (workOf P′ U Y t) ≡ passBy (today 4096 N M) write p above (workOf P U Y t)
   unfolding passBy
   pass-kept h e k g s q = rw (h, ← e, sym k ∙ g, q, s)
 
-  pub pass-own : {f : ℕ} {u : Bool} {s : PageState} {P′ : List ℕ} {c : Looking} → above ≡ Own f u → s ≡ newState f → P′ ≡ withState P (p .node) (p .page) s → c ≡ serve (today 4096 N M) write p s u (workOf P′ U Y t) → c ≡ passBy (today 4096 N M) write p above (workOf P U Y t)
+  pub pass-own : {f : ℕ} {u : Bool} {s : PageState} {P′ : List ℕ} {c : Looking} → above ≡ CopyOnWrite f u → s ≡ newState f → P′ ≡ withState P (p .node) (p .page) s → c ≡ serve (today 4096 N M) write p s u (workOf P′ U Y t) → c ≡ passBy (today 4096 N M) write p above (workOf P U Y t)
   unfolding passBy
   pass-own h s q c = rw (h, ← s, ← q) c

@@ -10,8 +10,8 @@ use Rattle.entry.specs.Entry.{newState}
 use Rattle.entry.specs.declared.Slot.the-variants.{Empty, Held}
 use Rattle.node.specs.Node.{hiddenOf}
 use Rattle.frames.specs.Frames.{freeFrameIn}
-use Rattle.lookup.specs.declared.Looked.{Looked}
-use Rattle.lookup.specs.declared.Looked.the-variants.{Shared, Zero, Own, New, NoMemory, Stopped}
+use Rattle.lookup.specs.declared.CommitResult.{CommitResult}
+use Rattle.lookup.specs.declared.CommitResult.the-variants.{Ref, Zero, CopyOnWrite, NewPage, NoMemory, Stopped}
 use Rattle.lookup.specs.Work.{Work, Looking, lookingOf}
 use Rattle.logic.proofs.Laws.{by-pick}
 use Rattle.lookup.specs.declared.Place.{Place}
@@ -39,13 +39,13 @@ pub data Looks (m : Mode) (write : Bool) (w : Work) : ℕ → Place → End → 
   zeros : {p : Place} {r : Looking} → Alone m w p → write ≡ false → r ≡ lookingOf Zero w → Looks m write w 0 p Bare r
   short : {p : Place} {r : Looking} → Alone m w p → write ≡ true → freeFrameIn (w .used) ≡ Nothing → r ≡ lookingOf NoMemory w → Looks m write w 0 p Bare r
   stops : {p : Place} {r : Looking} (g : ℕ) → Alone m w p → write ≡ true → freeFrameIn (w .used) ≡ At g → hiddenOf (nodeAt m p) ≡ true → haltsAt m p ≡ true → r ≡ lookingOf Stopped (backAt (m .bytes) w g) → Looks m write w 0 p Bare r
-  clears : {p : Place} {r : Looking} (g : ℕ) → Alone m w p → write ≡ true → freeFrameIn (w .used) ≡ At g → hiddenOf (nodeAt m p) ≡ true → haltsAt m p ≡ false → r ≡ lookingOf (New g) (cleared (m .bytes) w g) → Looks m write w 0 p Bare r
-  fills : {p : Place} {r : Looking} (g : ℕ) → Alone m w p → write ≡ true → freeFrameIn (w .used) ≡ At g → hiddenOf (nodeAt m p) ≡ false → r ≡ lookingOf (Shared g) (keptAt (cleared (m .bytes) w g) p g) → Looks m write w 0 p Bare r
+  clears : {p : Place} {r : Looking} (g : ℕ) → Alone m w p → write ≡ true → freeFrameIn (w .used) ≡ At g → hiddenOf (nodeAt m p) ≡ true → haltsAt m p ≡ false → r ≡ lookingOf (NewPage g) (cleared (m .bytes) w g) → Looks m write w 0 p Bare r
+  fills : {p : Place} {r : Looking} (g : ℕ) → Alone m w p → write ≡ true → freeFrameIn (w .used) ≡ At g → hiddenOf (nodeAt m p) ≡ false → r ≡ lookingOf (Ref g) (keptAt (cleared (m .bytes) w g) p g) → Looks m write w 0 p Bare r
   quits : {p : Place} {r : Looking} → Asked m w p → r ≡ lookingOf Stopped w → Looks m write w 0 p Tired r
   rests : {d : ℕ} {p : Place} {x : End} {r : Looking} → Asked m w p → Looks m write w d (up m p) x r → Final m write (r .answer) → Looks m write w (suc d) p x r
-  falls : {d : ℕ} {p : Place} {x : End} {r : Looking} (f : ℕ) (v : Work) → Asked m w p → Looks m write w d (up m p) x (lookingOf (New f) v) → hiddenOf (nodeAt m p) ≡ true → r ≡ lookingOf (New f) v → Looks m write w (suc d) p x r
-  lands : {d : ℕ} {p : Place} {x : End} {r : Looking} (f : ℕ) (v : Work) → Asked m w p → Looks m write w d (up m p) x (lookingOf (New f) v) → hiddenOf (nodeAt m p) ≡ false → r ≡ lookingOf (Shared f) (keptAt v p f) → Looks m write w (suc d) p x r
-  takes : {d : ℕ} {p : Place} {x : End} {r : Looking} (f : ℕ) (u : Bool) (v : Work) → Asked m w p → Looks m write w d (up m p) x (lookingOf (Own f u) v) → Serves m write p (newState f) u (keptAt v p f) r → Looks m write w (suc d) p x r
+  falls : {d : ℕ} {p : Place} {x : End} {r : Looking} (f : ℕ) (v : Work) → Asked m w p → Looks m write w d (up m p) x (lookingOf (NewPage f) v) → hiddenOf (nodeAt m p) ≡ true → r ≡ lookingOf (NewPage f) v → Looks m write w (suc d) p x r
+  lands : {d : ℕ} {p : Place} {x : End} {r : Looking} (f : ℕ) (v : Work) → Asked m w p → Looks m write w d (up m p) x (lookingOf (NewPage f) v) → hiddenOf (nodeAt m p) ≡ false → r ≡ lookingOf (Ref f) (keptAt v p f) → Looks m write w (suc d) p x r
+  takes : {d : ℕ} {p : Place} {x : End} {r : Looking} (f : ℕ) (u : Bool) (v : Work) → Asked m w p → Looks m write w d (up m p) x (lookingOf (CopyOnWrite f u) v) → Serves m write p (newState f) u (keptAt v p f) r → Looks m write w (suc d) p x r
 
 module _ (m : Mode) (write : Bool) (w : Work) where
   alone-by : (p : Place) → Alone m w p → write ≡ true → (y : Found) → freeFrameIn (w .used) ≡ y → (h o : Bool) → hiddenOf (nodeAt m p) ≡ h → haltsAt m p ≡ o → Looks m write w 0 p Bare (freshBy (m .bytes) y w p h o)
@@ -56,14 +56,14 @@ module _ (m : Mode) (write : Bool) (w : Work) where
   alone-by p a k (At g) f false true i j = fills g a k f i refl
   alone-by p a k (At g) f false false i j = fills g a k f i refl
 
-  pass-by : (d : ℕ) (p : Place) (x : End) → Asked m w p → (r : Looked) (v : Work) → Looks m write w d (up m p) x (lookingOf r v) → Looks m write w (suc d) p x (passBy m write p r v)
+  pass-by : (d : ℕ) (p : Place) (x : End) → Asked m w p → (r : CommitResult) (v : Work) → Looks m write w d (up m p) x (lookingOf r v) → Looks m write w (suc d) p x (passBy m write p r v)
   unfolding passBy
-  pass-by d p x a (Shared f) v l = rests a l tt
+  pass-by d p x a (Ref f) v l = rests a l tt
   pass-by d p x a Zero v l = rests a l tt
   pass-by d p x a NoMemory v l = rests a l tt
   pass-by d p x a Stopped v l = rests a l tt
-  pass-by d p x a (New f) v l = by-pick (Looks m write w (suc d) p x) (hiddenOf (nodeAt m p)) (λ h. falls f v a l h refl) (λ h. lands f v a l h refl)
-  pass-by d p x a (Own f u) v l = takes f u v a l (serves m write p (newState f) u (keptAt v p f))
+  pass-by d p x a (NewPage f) v l = by-pick (Looks m write w (suc d) p x) (hiddenOf (nodeAt m p)) (λ h. falls f v a l h refl) (λ h. lands f v a l h refl)
+  pass-by d p x a (CopyOnWrite f u) v l = takes f u v a l (serves m write p (newState f) u (keptAt v p f))
 
   along-by : (d : ℕ) (p : Place) (x : End) → Walks m (w .pages) d p x → Looks m write w d p x (along m write w p (way d x))
   unfolding descent ups top freshIn

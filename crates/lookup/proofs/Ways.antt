@@ -13,7 +13,7 @@ use Rattle.entry.specs.Entry.{splitOf}
 use Rattle.node.specs.Node.{hiddenOf, sideOf}
 use Rattle.tables.specs.Tables.{slotAt}
 use Rattle.frames.specs.Frames.{freeFrameIn}
-use Rattle.lookup.specs.declared.Looked.the-variants.{Shared, Own, NoMemory}
+use Rattle.lookup.specs.declared.CommitResult.the-variants.{Ref, CopyOnWrite, NoMemory}
 use Rattle.lookup.specs.Work.{Work, Looking, lookingOf}
 use Rattle.lookup.specs.declared.Place.{Place}
 use Rattle.lookup.specs.declared.End.{End}
@@ -24,11 +24,11 @@ use Rattle.lookup.specs.Descent.{Way, walkBy, walk}
 
 pub data Serves (m : Mode) (write : Bool) (p : Place) (s : PageState) (u : Bool) (w : Work) (r : Looking) : Type 0 where
   keeps : hiddenOf (nodeAt m p) ≡ false → r ≡ leafStep (m .mappings) s w (p .node) (p .page) u → Serves m write p s u w r
-  goes : hiddenOf (nodeAt m p) ≡ true → bothAt m p ≡ false → r ≡ lookingOf (Own (s .frame) u) (outAt p w) → Serves m write p s u w r
-  moves : hiddenOf (nodeAt m p) ≡ true → bothAt m p ≡ true → splitOf (s .tag) ≡ true → r ≡ lookingOf (Own (s .frame) u) (outAt p (toldAt m p u w)) → Serves m write p s u w r
-  copies : hiddenOf (nodeAt m p) ≡ true → bothAt m p ≡ true → splitOf (s .tag) ≡ false → write ≡ true → (g : ℕ) → freeFrameIn (w .used) ≡ At g → r ≡ lookingOf (Own g true) (copyAt m p s g (toldAt m p u w)) → Serves m write p s u w r
+  goes : hiddenOf (nodeAt m p) ≡ true → bothAt m p ≡ false → r ≡ lookingOf (CopyOnWrite (s .frame) u) (outAt p w) → Serves m write p s u w r
+  moves : hiddenOf (nodeAt m p) ≡ true → bothAt m p ≡ true → splitOf (s .tag) ≡ true → r ≡ lookingOf (CopyOnWrite (s .frame) u) (outAt p (toldAt m p u w)) → Serves m write p s u w r
+  copies : hiddenOf (nodeAt m p) ≡ true → bothAt m p ≡ true → splitOf (s .tag) ≡ false → write ≡ true → (g : ℕ) → freeFrameIn (w .used) ≡ At g → r ≡ lookingOf (CopyOnWrite g true) (copyAt m p s g (toldAt m p u w)) → Serves m write p s u w r
   lacks : hiddenOf (nodeAt m p) ≡ true → bothAt m p ≡ true → splitOf (s .tag) ≡ false → write ≡ true → freeFrameIn (w .used) ≡ Nothing → r ≡ lookingOf NoMemory (deniedAt m p u (toldAt m p u w)) → Serves m write p s u w r
-  lends : hiddenOf (nodeAt m p) ≡ true → bothAt m p ≡ true → splitOf (s .tag) ≡ false → (write && splitOf (sideOf (nodeAt m p) (p .asker) .tag)) ≡ false → r ≡ lookingOf (Shared (s .frame)) (toldAt m p u w) → Serves m write p s u w r
+  lends : hiddenOf (nodeAt m p) ≡ true → bothAt m p ≡ true → splitOf (s .tag) ≡ false → (write && splitOf (sideOf (nodeAt m p) (p .asker) .tag)) ≡ false → r ≡ lookingOf (Ref (s .frame)) (toldAt m p u w) → Serves m write p s u w r
 
 pub serves : (m : Mode) (write : Bool) (p : Place) (s : PageState) (u : Bool) (w : Work) → Serves m write p s u w (serve m write p s u w)
 unfolding serve shareIn copyBy

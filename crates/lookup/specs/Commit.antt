@@ -3,8 +3,8 @@ use Prim.Native.Nat.{ℕ}
 use mathlib.Core.Bool.{Bool}
 use mathlib.Core.List.{List}
 use Rattle.outcome.specs.declared.answer.Refusal as R
-use Rattle.lookup.specs.declared.Looked.{Looked}
-use Rattle.lookup.specs.declared.Looked.the-variants.{Shared, Zero, Own, New, NoMemory, Stopped}
+use Rattle.lookup.specs.declared.CommitResult.{CommitResult}
+use Rattle.lookup.specs.declared.CommitResult.the-variants.{Ref, Zero, CopyOnWrite, NewPage, NoMemory, Stopped}
 use Rattle.lookup.specs.declared.Committed.{Committed}
 use Rattle.lookup.specs.declared.Committed.the-variants.{Frame, ZeroFrame, Refused}
 use Rattle.lookup.specs.declared.Ask.{Ask}
@@ -17,13 +17,13 @@ abbrev pub askOf : ℕ → ℕ → Bool → ℕ → Ask
 askOf n i write count = record { place = placeOf n i n; write = write; count = count }
 
 -- what is handed up goes to no child: the source's unreachable!
-abbrev pub committedBy : Looked → Committed
-committedBy (Shared f) = Frame f
+abbrev pub committedBy : CommitResult → Committed
+committedBy (Ref f) = Frame f
 committedBy Zero = ZeroFrame
 committedBy NoMemory = Refused R.the-variants.NoMemory
 committedBy Stopped = Refused R.the-variants.Stopped
-committedBy (Own f u) = Refused R.the-variants.Stopped
-committedBy (New f) = Refused R.the-variants.Stopped
+committedBy (CopyOnWrite f u) = Refused R.the-variants.Stopped
+committedBy (NewPage f) = Refused R.the-variants.Stopped
 
 pub record Committing : Type 0 where
   pub answer : Committed

@@ -7,7 +7,7 @@ use Rattle.entry.specs.declared.Slot.{Slot}
 use Rattle.entry.specs.declared.Slot.the-variants.{Empty, Held}
 use Rattle.node.specs.Node.{hiddenOf}
 use Rattle.tables.specs.Tables.{slotAt}
-use Rattle.lookup.specs.declared.Looked.the-variants.{Stopped}
+use Rattle.lookup.specs.declared.CommitResult.the-variants.{Stopped}
 use Rattle.lookup.specs.declared.Place.{Place}
 use Rattle.lookup.specs.declared.End.{End}
 use Rattle.lookup.specs.declared.End.the-variants.{Has, Bare, Tired}

@@ -14,8 +14,8 @@ use Rattle.tables.specs.Tables.{slotAt, withState, withoutState}
 use Rattle.frames.specs.Frames.{freeFrameIn, takenOf, givenOf, clearedAt, copiedAt}
 use Rattle.outcome.specs.Told.{Told, unmap}
 use Rattle.notices.specs.Notices.{tellObject, rangeChange}
-use Rattle.lookup.specs.declared.Looked.{Looked}
-use Rattle.lookup.specs.declared.Looked.the-variants.{Shared, Zero, Own, New, NoMemory, Stopped}
+use Rattle.lookup.specs.declared.CommitResult.{CommitResult}
+use Rattle.lookup.specs.declared.CommitResult.the-variants.{Ref, Zero, CopyOnWrite, NewPage, NoMemory, Stopped}
 use Rattle.lookup.specs.declared.Place.{Place}
 use Rattle.lookup.specs.Work.{Work, workOf, Looking, lookingOf}
 use Rattle.lookup.specs.Mode.{Mode, nodeAt, other, bothAt, haltsAt}
@@ -55,9 +55,9 @@ backAt L w f = workOf (w .pages) (givenOf f (takenOf (At f) (w .used))) (cleared
 unfoldable pub freshBy : ℕ → Found → Work → Place → Bool → Bool → Looking
 freshBy L Nothing w p hidden halts = lookingOf NoMemory w
 freshBy L (At f) w p true true = lookingOf Stopped (backAt L w f)
-freshBy L (At f) w p true false = lookingOf (New f) (cleared L w f)
-freshBy L (At f) w p false true = lookingOf (Shared f) (keptAt (cleared L w f) p f)
-freshBy L (At f) w p false false = lookingOf (Shared f) (keptAt (cleared L w f) p f)
+freshBy L (At f) w p true false = lookingOf (NewPage f) (cleared L w f)
+freshBy L (At f) w p false true = lookingOf (Ref f) (keptAt (cleared L w f) p f)
+freshBy L (At f) w p false false = lookingOf (Ref f) (keptAt (cleared L w f) p f)
 
 unfoldable pub freshIn : ℕ → Bool → Work → Place → Bool → Bool → Looking
 freshIn L write w p hidden halts = pick write (freshBy L (freeFrameIn (w .used)) w p hidden halts) (lookingOf Zero w)
@@ -85,37 +85,37 @@ copyAt m p s g w = splitAt (m .bytes) p s (sideOf (nodeAt m p) (p .asker) .tag) 
 
 unfoldable pub copyBy : Mode → Place → PageState → Bool → Found → Work → Looking
 copyBy m p s u Nothing w = lookingOf NoMemory (deniedAt m p u w)
-copyBy m p s u (At g) w = lookingOf (Own g true) (copyAt m p s g w)
+copyBy m p s u (At g) w = lookingOf (CopyOnWrite g true) (copyAt m p s g w)
 
 -- a page that the other child has too, 626: a split one goes to the asker; for writing the asker gets a copy; else the frame is shared
 unfoldable pub shareIn : Mode → Bool → Place → PageState → Bool → Work → Looking
 shareIn m write p s u w =
-    pick (splitOf (s .tag)) (lookingOf (Own (s .frame) u) (outAt p w))
-    (pick (write && splitOf (sideOf (nodeAt m p) (p .asker) .tag)) (copyBy m p s u (freeFrameIn (w .used)) w) (lookingOf (Shared (s .frame)) w))
+    pick (splitOf (s .tag)) (lookingOf (CopyOnWrite (s .frame) u) (outAt p w))
+    (pick (write && splitOf (sideOf (nodeAt m p) (p .asker) .tag)) (copyBy m p s u (freeFrameIn (w .used)) w) (lookingOf (Ref (s .frame)) w))
 
 -- a leaf that has the page, 619: its mappings are told of a frame that was handed down
 unfoldable pub leafTold : List ℕ → ℕ → ℕ → Bool → Told → Told
 leafTold M node i due t = pick due (tellObject M t 64 node i (i + 1) unmap) t
 
 abbrev pub leafStep : List ℕ → PageState → Work → ℕ → ℕ → Bool → Looking
-leafStep M s w node i due = lookingOf (Shared (s .frame)) (withTold w (leafTold M node i due (w .told)))
+leafStep M s w node i due = lookingOf (Ref (s .frame)) (withTold w (leafTold M node i due (w .told)))
 
 -- the page at the node, 598 to 639: what only the asking child can reach goes to it
 unfoldable pub serve : Mode → Bool → Place → PageState → Bool → Work → Looking
 serve m write p s due w =
     pick (hiddenOf (nodeAt m p))
-    (pick (bothAt m p) (shareIn m write p s due (toldAt m p due w)) (lookingOf (Own (s .frame) due) (outAt p w)))
+    (pick (bothAt m p) (shareIn m write p s due (toldAt m p due w)) (lookingOf (CopyOnWrite (s .frame) due) (outAt p w)))
     (leafStep (m .mappings) s w (p .node) (p .page) due)
 
 -- what the parent answered, taken apart, 575 to 595: a shared frame and a refusal leave early; what was handed over is kept and served; a
 -- cleared frame passes hidden nodes
-unfoldable pub passBy : Mode → Bool → Place → Looked → Work → Looking
-passBy m write p (Shared f) w = lookingOf (Shared f) w
+unfoldable pub passBy : Mode → Bool → Place → CommitResult → Work → Looking
+passBy m write p (Ref f) w = lookingOf (Ref f) w
 passBy m write p Zero w = lookingOf Zero w
 passBy m write p NoMemory w = lookingOf NoMemory w
 passBy m write p Stopped w = lookingOf Stopped w
-passBy m write p (New f) w = pick (hiddenOf (nodeAt m p)) (lookingOf (New f) w) (lookingOf (Shared f) (keptAt w p f))
-passBy m write p (Own f u) w = serve m write p (newState f) u (keptAt w p f)
+passBy m write p (NewPage f) w = pick (hiddenOf (nodeAt m p)) (lookingOf (NewPage f) w) (lookingOf (Ref f) (keptAt w p f))
+passBy m write p (CopyOnWrite f u) w = serve m write p (newState f) u (keptAt w p f)
 
 abbrev pub pass : Mode → Bool → Place → Looking → Looking
 pass m write p r = passBy m write p (r .answer) (r .work)

@@ -5,7 +5,7 @@ use mathlib.Core.List.{List}
 use Rattle.logic.specs.Pick.{pick}
 use Rattle.entry.specs.declared.Slot.{Slot}
 use Rattle.entry.specs.declared.Slot.the-variants.{Empty, Held}
-use Rattle.lookup.specs.declared.Looked.the-variants.{Stopped}
+use Rattle.lookup.specs.declared.CommitResult.the-variants.{Stopped}
 use Rattle.lookup.specs.declared.Place.{Place}
 use Rattle.lookup.specs.Work.{Work, Looking, lookingOf}
 use Rattle.lookup.specs.Mode.{Mode, today, placeOf, up, asks}

@@ -1,8 +1,8 @@
 // commit_page (paged.rs 520): an object's page.
 use crate::Ask;
 use crate::Commit;
+use crate::CommitResult;
 use crate::Committed;
-use crate::Looked;
 use crate::descent;
 use outcome::Refusal;
 ghost use mathlib.Core.Path.{_≡_};
@@ -14,16 +14,16 @@ ghost use Rattle.lookup.specs.Lookup.{lookIn};
 ghost use Rattle.lookup.specs.Commit.{committedBy, committingOf, committing};
 
 // A leaf hands nothing up: the source says that it can't be reached.
-fn committed_by(looked: Looked) -> Committed
+fn committed_by(looked: CommitResult) -> Committed
     ensures { λ r. ⌜ r ≡ committedBy looked ⌝ }
 {
     match looked {
-        Looked::Shared(f) => return Committed::Frame(f),
-        Looked::Zero => return Committed::ZeroFrame,
-        Looked::NoMemory => return Committed::Refused(Refusal::NoMemory),
-        Looked::Stopped => return Committed::Refused(Refusal::Stopped),
-        Looked::Own(_, _) => return Committed::Refused(Refusal::Stopped),
-        Looked::New(_) => return Committed::Refused(Refusal::Stopped),
+        CommitResult::Ref(f) => return Committed::Frame(f),
+        CommitResult::Zero => return Committed::ZeroFrame,
+        CommitResult::NoMemory => return Committed::Refused(Refusal::NoMemory),
+        CommitResult::Stopped => return Committed::Refused(Refusal::Stopped),
+        CommitResult::CopyOnWrite(_, _) => return Committed::Refused(Refusal::Stopped),
+        CommitResult::NewPage(_) => return Committed::Refused(Refusal::Stopped),
     }
 }
 

@@ -1,7 +1,7 @@
 // The descent: what the walk found comes down, each node doing its part.
 use crate::Ask;
+use crate::CommitResult;
 use crate::End;
-use crate::Looked;
 use crate::Step;
 use crate::Walked;
 use crate::level;
@@ -28,7 +28,7 @@ fn descend(
     notices: &mut [u32],
     ask: Ask,
     left: u32,
-    found: Looked,
+    found: CommitResult,
 ) -> Step
     requires { ⌜ ask .place .page + left * 4294967296 ≤ 281474976710656 ⌝ }
     ensures { λ r. ⌜
@@ -83,7 +83,7 @@ fn come_down(
     notices: &mut [u32],
     ask: Ask,
     left: u32,
-    found: Looked,
+    found: CommitResult,
 ) -> Step
     requires { ⌜ ask .place .page + left * 4294967296 ≤ 281474976710656 ⌝ }
     ensures { λ r. ⌜
@@ -92,23 +92,23 @@ fn come_down(
 {
     let count = ask.count;
     match found {
-        Looked::Shared(_) => Step {
+        CommitResult::Ref(_) => Step {
             looked: found,
             count,
         },
-        Looked::Zero => Step {
+        CommitResult::Zero => Step {
             looked: found,
             count,
         },
-        Looked::NoMemory => Step {
+        CommitResult::NoMemory => Step {
             looked: found,
             count,
         },
-        Looked::Stopped => Step {
+        CommitResult::Stopped => Step {
             looked: found,
             count,
         },
-        Looked::New(_) => {
+        CommitResult::NewPage(_) => {
             return descend(
                 nodes,
                 pages,
@@ -121,7 +121,7 @@ fn come_down(
                 found,
             );
         }
-        Looked::Own(_, _) => {
+        CommitResult::CopyOnWrite(_, _) => {
             return descend(
                 nodes,
                 pages,
@@ -265,7 +265,7 @@ pub fn find_page(
             return fresh_down(nodes, pages, used, mappings, memory, notices, ask, walked);
         }
         End::Tired => {
-            let looked = Looked::Stopped;
+            let looked = CommitResult::Stopped;
             return Step {
                 looked,
                 count: ask.count,

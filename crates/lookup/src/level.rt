@@ -1,6 +1,6 @@
 // One node's part of a lookup.
 use crate::Ask;
-use crate::Looked;
+use crate::CommitResult;
 use crate::Place;
 use crate::Step;
 use entry::PageState;
@@ -28,28 +28,28 @@ pub fn make_fresh(
     hidden: bool,
     halts: bool,
     write: bool,
-) -> Looked
+) -> CommitResult
     ensures { λ r. ⌜ ((list : List ℕ) (count : ℕ) →
         lookingOf r (workOf (now (pages .exit)) (now (used .exit)) (now (memory .exit)) (toldOf list count))
         ≡ freshIn 4096 write (workOf (now (pages .entry)) (now (used .entry)) (now (memory .entry)) (toldOf list count)) p hidden halts) ⌝ }
 {
     if !write {
-        return Looked::Zero;
+        return CommitResult::Zero;
     }
     let got = frames::take_frame(used);
     match got {
-        Found::Nothing => return Looked::NoMemory,
+        Found::Nothing => return CommitResult::NoMemory,
         Found::At(f) => {
             frames::clear_frame(memory, f);
             if hidden {
                 if halts {
                     frames::give_frame(used, f);
-                    return Looked::Stopped;
+                    return CommitResult::Stopped;
                 }
-                return Looked::New(f);
+                return CommitResult::NewPage(f);
             }
             tables::set_state(pages, p.node, p.page, PageState::new(f));
-            return Looked::Shared(f);
+            return CommitResult::Ref(f);
         }
     }
 }
@@ -62,19 +62,19 @@ fn copy_page(
     p: Place,
     s: PageState,
     tag: PageStateTag,
-) -> Looked
+) -> CommitResult
     ensures { λ r. ⌜ ((N M list : List ℕ) (count : ℕ) (u : Bool) → sideOf (nodeOf N (p .node)) (p .asker) .tag ≡ tag →
         lookingOf r (workOf (now (pages .exit)) (now (used .exit)) (now (memory .exit)) (toldOf list count))
         ≡ copyBy (today 4096 N M) p s u (freeFrameIn (now (used .entry))) (workOf (now (pages .entry)) (now (used .entry)) (now (memory .entry)) (toldOf list count))) ⌝ }
 {
     let got = frames::take_frame(used);
     match got {
-        Found::Nothing => return Looked::NoMemory,
+        Found::Nothing => return CommitResult::NoMemory,
         Found::At(f) => {
             let frame = s.frame;
             frames::copy_frame(memory, f, frame);
             tables::set_state(pages, p.node, p.page, s.with_tag(tag));
-            return Looked::Own(f, true);
+            return CommitResult::CopyOnWrite(f, true);
         }
     }
 }
@@ -89,7 +89,7 @@ fn share(
     tag: PageStateTag,
     write: bool,
     unmap: bool,
-) -> Looked
+) -> CommitResult
     ensures { λ r. ⌜ ((N M list : List ℕ) (count : ℕ) → sideOf (nodeOf N (p .node)) (p .asker) .tag ≡ tag →
         lookingOf r (workOf (now (pages .exit)) (now (used .exit)) (now (memory .exit)) (toldOf list count))
         ≡ shareIn (today 4096 N M) write p s unmap (workOf (now (pages .entry)) (now (used .entry)) (now (memory .entry)) (toldOf list count))) ⌝ }
@@ -97,12 +97,12 @@ fn share(
     let own = s.tag;
     if own.is_split() {
         tables::clear_state(pages, p.node, p.page);
-        return Looked::Own(s.frame, unmap);
+        return CommitResult::CopyOnWrite(s.frame, unmap);
     }
     if write & tag.is_split() {
         return copy_page(pages, used, memory, p, s, tag);
     }
-    Looked::Shared(s.frame)
+    CommitResult::Ref(s.frame)
 }
 
 // An Unmap that is due goes to everything below the child.
@@ -166,7 +166,7 @@ pub fn serve(
     let n = tables::node_at(nodes, p.node);
     if !n.is_hidden() {
         let count = tell_leaf(mappings, notices, ask.count, p, unmap);
-        let looked = Looked::Shared(s.frame);
+        let looked = CommitResult::Ref(s.frame);
         return Step { looked, count };
     }
     let side = n.get_tag_and_other(p.asker);
@@ -179,7 +179,7 @@ pub fn serve(
         return Step { looked, count };
     }
     tables::clear_state(pages, p.node, p.page);
-    let looked = Looked::Own(s.frame, unmap);
+    let looked = CommitResult::CopyOnWrite(s.frame, unmap);
     Step {
         looked,
         count: ask.count,
@@ -195,7 +195,7 @@ pub fn pass(
     memory: &mut [u8],
     notices: &mut [u32],
     ask: Ask,
-    above: Looked,
+    above: CommitResult,
 ) -> Step
     requires { ⌜ ask .place .page ≤ 281474976710656 ⌝ }
     ensures { λ r. ⌜
@@ -205,33 +205,33 @@ pub fn pass(
     let p = ask.place;
     let count = ask.count;
     match above {
-        Looked::Shared(_) => Step {
+        CommitResult::Ref(_) => Step {
             looked: above,
             count,
         },
-        Looked::Zero => Step {
+        CommitResult::Zero => Step {
             looked: above,
             count,
         },
-        Looked::NoMemory => Step {
+        CommitResult::NoMemory => Step {
             looked: above,
             count,
         },
-        Looked::Stopped => Step {
+        CommitResult::Stopped => Step {
             looked: above,
             count,
         },
-        Looked::New(f) => {
+        CommitResult::NewPage(f) => {
             let n = tables::node_at(nodes, p.node);
             if n.is_hidden() {
-                let looked = Looked::New(f);
+                let looked = CommitResult::NewPage(f);
                 return Step { looked, count };
             }
             tables::set_state(pages, p.node, p.page, PageState::new(f));
-            let looked = Looked::Shared(f);
+            let looked = CommitResult::Ref(f);
             return Step { looked, count };
         }
-        Looked::Own(f, unmap) => {
+        CommitResult::CopyOnWrite(f, unmap) => {
             let s = PageState::new(f);
             tables::set_state(pages, p.node, p.page, s);
             return serve(nodes, pages, used, mappings, memory, notices, ask, s, unmap);

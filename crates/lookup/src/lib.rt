@@ -11,23 +11,23 @@ pub use walking::walk;
 ghost use mathlib.Core.Path.{_≡_};
 ghost use Rattle.lookup.specs.Commit.{askOf};
 
-// What a node answers to who asks it for a page.
-pub enum Looked {
+// CommitResult (paged.rs 466), with the zero frame and what ends a lookup: what a node answers to who asks it for a page.
+pub enum CommitResult {
     // A frame that stays where it is.
-    Shared(u32),
+    Ref(u32),
     // No frame: the page reads as zeros.
     Zero,
     // A frame that the asker keeps, and whether an Unmap is due below.
-    Own(u32, bool),
+    CopyOnWrite(u32, bool),
     // A cleared frame, which a hidden node doesn't keep.
-    New(u32),
+    NewPage(u32),
     NoMemory,
     Stopped,
 }
 
 // An answer, and how many notices the list has by then.
 pub struct Step {
-    pub looked: Looked,
+    pub looked: CommitResult,
     pub count: usize,
 }
 

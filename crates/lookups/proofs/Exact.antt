@@ -11,8 +11,8 @@ use Rattle.tables.specs.Pool.{Pool}
 use Rattle.tables.specs.Tables.{nodeOf, slotAt}
 use Rattle.frames.specs.Frames.{freeCount}
 use Rattle.sound.specs.Facts.{Leaf, Sound}
-use Rattle.lookup.specs.declared.Looked.{Looked}
-use Rattle.lookup.specs.declared.Looked.the-variants.{Shared, NoMemory, Stopped}
+use Rattle.lookup.specs.declared.CommitResult.{CommitResult}
+use Rattle.lookup.specs.declared.CommitResult.the-variants.{Ref, NoMemory, Stopped}
 use Rattle.lookup.specs.declared.Place.{Place}
 use Rattle.lookup.specs.declared.End.{End}
 use Rattle.lookup.specs.declared.End.the-variants.{Has, Bare, Tired}
@@ -79,23 +79,23 @@ write-exact L p sound w l i c leaf =
 
 -- by what the lookup answered
 
-shared-not : {f : ℕ} {A : Type 0} → Shared f ≡ NoMemory → A
+shared-not : {f : ℕ} {A : Type 0} → Ref f ≡ NoMemory → A
 shared-not e = let z : _≡_ {A = ℕ} 0 1 = cc in absurd (omega arith)
 
-stopped-not : {f : ℕ} {A : Type 0} → Shared f ≡ Stopped → A
+stopped-not : {f : ℕ} {A : Type 0} → Ref f ≡ Stopped → A
 stopped-not e = let z : _≡_ {A = ℕ} 0 1 = cc in absurd (omega arith)
 
 denied-not : {A : Type 0} → NoMemory ≡ Stopped → A
 denied-not e = let z : _≡_ {A = ℕ} 0 1 = cc in absurd (omega arith)
 
-same-work : {a b : Looked} {v y : Work} → lookingOf a v ≡ lookingOf b y → v ≡ y
+same-work : {a b : CommitResult} {v y : Work} → lookingOf a v ≡ lookingOf b y → v ≡ y
 same-work e = ap (λ (r : Looking). r .work) e
 
-same-answer : {a b : Looked} {v y : Work} → lookingOf a v ≡ lookingOf b y → a ≡ b
+same-answer : {a b : CommitResult} {v y : Work} → lookingOf a v ≡ lookingOf b y → a ≡ b
 same-answer e = ap (λ (r : Looking). r .answer) e
 
 module _ {n : ℕ} {w v : Work} where
-  pub pays-gives : {f : ℕ} → Pays n w (lookingOf (Shared f) v) → freeCount (w .used) ≡ freeCount (v .used) + n
+  pub pays-gives : {f : ℕ} → Pays n w (lookingOf (Ref f) v) → freeCount (w .used) ≡ freeCount (v .used) + n
   pays-gives (gives g y e c) = rw (same-work e) c
   pays-gives (refuses y e l o) = shared-not (same-answer e)
   pays-gives (stops y e c) = stopped-not (same-answer e)

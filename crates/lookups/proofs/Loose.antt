@@ -9,8 +9,8 @@ use Rattle.entry.specs.declared.Slot.the-variants.{Empty, Held}
 use Rattle.entry.specs.Entry.{newState}
 use Rattle.tables.specs.Tables.{nodeOf, slotAt, withState}
 use Rattle.outcome.specs.Told.{Told}
-use Rattle.lookup.specs.declared.Looked.{Looked}
-use Rattle.lookup.specs.declared.Looked.the-variants.{Shared, Zero, Own, New, NoMemory, Stopped}
+use Rattle.lookup.specs.declared.CommitResult.{CommitResult}
+use Rattle.lookup.specs.declared.CommitResult.the-variants.{Ref, Zero, CopyOnWrite, NewPage, NoMemory, Stopped}
 use Rattle.lookup.specs.Work.{Work, Looking}
 use Rattle.lookup.specs.Level.{withTold, kept}
 use Rattle.sound.specs.Facts.{Hidden, Holds}
@@ -29,10 +29,10 @@ module _ (N : List ℕ) (B : Base N) (L F : ℕ) where
     pub loose : Loose N (w .pages) (w .used) f
 
   -- only a hidden node hands a frame down
-  abbrev pub Keeps : ℕ → Looked → Work → Type 0
-  Keeps n (Own f u) w = Hidden N n × Hand w f
-  Keeps n (New f) w = Hidden N n × Hand w f
-  Keeps n (Shared f) w = Ok N L F w
+  abbrev pub Keeps : ℕ → CommitResult → Work → Type 0
+  Keeps n (CopyOnWrite f u) w = Hidden N n × Hand w f
+  Keeps n (NewPage f) w = Hidden N n × Hand w f
+  Keeps n (Ref f) w = Ok N L F w
   Keeps n Zero w = Ok N L F w
   Keeps n NoMemory w = Ok N L F w
   Keeps n Stopped w = Ok N L F w

@@ -8,8 +8,8 @@ use Rattle.node.specs.Node.{hiddenOf}
 use Rattle.tables.specs.Pool.{Pool}
 use Rattle.tables.specs.Tables.{nodeOf}
 use Rattle.sound.specs.Facts.{Leaf, Sound}
-use Rattle.lookup.specs.declared.Looked.{Looked}
-use Rattle.lookup.specs.declared.Looked.the-variants.{Shared, Zero, Own, New, NoMemory, Stopped}
+use Rattle.lookup.specs.declared.CommitResult.{CommitResult}
+use Rattle.lookup.specs.declared.CommitResult.the-variants.{Ref, Zero, CopyOnWrite, NewPage, NoMemory, Stopped}
 use Rattle.lookup.specs.Work.{Work, Looking, lookingOf}
 use Rattle.lookup.specs.Level.{childTold, leafTold}
 use Rattle.lookup.specs.Lookup.{look}
@@ -32,7 +32,7 @@ use Rattle.lookup.proofs.Looks.{Looks, looks}
 use Rattle.lookup.proofs.Looks.Looks.{has, zeros, short, stops, clears, fills, quits, rests, falls, lands, takes}
 
 module _ {S : Type 0} where
-  still : {w : Work} {r : Looked} {v : Work} → Reads S r → v .used ≡ w .used → v .memory ≡ w .memory → v .told ≡ w .told → Quiet S w (lookingOf r v)
+  still : {w : Work} {r : CommitResult} {v : Work} → Reads S r → v .used ≡ w .used → v .memory ≡ w .memory → v .told ≡ w .told → Quiet S w (lookingOf r v)
   still a u y t = record { answer = a; used = u; memory = y; told = t }
 
   after : {w v : Work} {r : Looking} → v .used ≡ w .used → v .memory ≡ w .memory → v .told ≡ w .told → Quiet S v r → Quiet S w r
@@ -96,13 +96,13 @@ leaf-looks n (falls f v a l h e) = (true-not h n)
 leaf-looks n (lands f v a l h e) = rw e tt
 leaf-looks n (takes f u v a l x) = leaf-serves n x
 
-answers-by : (m : Mode) (r : Looked) → Reads ⊥ r → Final m false r → Readable (committedBy r)
-answers-by m (Shared f) a z = frame f refl
+answers-by : (m : Mode) (r : CommitResult) → Reads ⊥ r → Final m false r → Readable (committedBy r)
+answers-by m (Ref f) a z = frame f refl
 answers-by m Zero a z = no-frame refl
 answers-by m NoMemory a z = absurd a
 answers-by m Stopped a z = absurd a
-answers-by m (Own f u) a z = absurd z
-answers-by m (New f) a z = absurd z
+answers-by m (CopyOnWrite f u) a z = absurd z
+answers-by m (NewPage f) a z = absurd z
 
 -- so of an object's page, as its callers see it
 

@@ -11,7 +11,7 @@ use Rattle.entry.specs.Entry.{taggedOf}
 use Rattle.node.specs.Node.{sideOf}
 use Rattle.frames.specs.Frames.{freeFrameIn}
 use Rattle.outcome.specs.Told.{Told}
-use Rattle.lookup.specs.declared.Looked.the-variants.{Own}
+use Rattle.lookup.specs.declared.CommitResult.the-variants.{CopyOnWrite}
 use Rattle.lookup.specs.Work.{Work, Looking, lookingOf}
 use Rattle.sound.specs.Facts.{Hidden, Holds}
 use Rattle.lookups.proofs.Table.{others, wrote-none}
@@ -40,7 +40,7 @@ module _ (m : Mode) (B : Base (m .nodes)) (F : ℕ) where
     low : p .page < nodeAt m p .size
     low = o .entries .below (p .node) (p .page) e x
 
-    moved : (t : Told) (u : Bool) → Hidden (m .nodes) (p .node) → Sounds w p (lookingOf (Own (e .frame) u) (outAt p (withTold w t)))
+    moved : (t : Told) (u : Bool) → Hidden (m .nodes) (p .node) → Sounds w p (lookingOf (CopyOnWrite (e .frame) u) (outAt p (withTold w t)))
     moved t u h =
         let y = wrote-none (w .pages) (p .node) (p .page) (page-low (m .nodes) B (p .node) (p .page) low) (node-low (m .nodes) B (p .node) (p .page) low) (o .pages) in
         record {
@@ -48,7 +48,7 @@ module _ (m : Mode) (B : Base (m .nodes)) (F : ℕ) where
           keeps = (h, record { few = o .few; pages = y .size ∙ o .pages; used = o .used; memory = o .memory; loose = taken-out (o .entries) x y });
         }
 
-    copied : (t : Told) (g : ℕ) → Hidden (m .nodes) (p .node) → freeFrameIn (w .used) ≡ At g → Sounds w p (lookingOf (Own g true) (copyAt m p e g (withTold w t)))
+    copied : (t : Told) (g : ℕ) → Hidden (m .nodes) (p .node) → freeFrameIn (w .used) ≡ At g → Sounds w p (lookingOf (CopyOnWrite g true) (copyAt m p e g (withTold w t)))
     copied t g h f =
         let idle = free-idle (w .used) g f in
         let k = idle .below in

@@ -5,7 +5,7 @@ use Prim.Native.Nat.{ℕ, zero, suc}
 use Rattle.entry.specs.declared.PageState.{PageState}
 use Rattle.entry.specs.Entry.{newState}
 use Rattle.node.specs.Node.{hiddenOf}
-use Rattle.lookup.specs.declared.Looked.the-variants.{Shared, Own}
+use Rattle.lookup.specs.declared.CommitResult.the-variants.{Ref, CopyOnWrite}
 use Rattle.lookup.specs.Work.{Work, Looking, lookingOf}
 use Rattle.logic.proofs.Laws.{true-not}
 use Rattle.lookup.specs.declared.Place.{Place}
@@ -19,8 +19,8 @@ use Rattle.lookup.proofs.Ways.Walks.{stands, climbs}
 
 -- frame f is shared, or a hidden node hands it down
 data Carries (m : Mode) (p : Place) (f : ℕ) (r : Looking) : Type 0 where
-  shares : (v : Work) → r ≡ lookingOf (Shared f) v → Carries m p f r
-  hands : (v : Work) → hiddenOf (nodeAt m p) ≡ true → r ≡ lookingOf (Own f false) v → Carries m p f r
+  shares : (v : Work) → r ≡ lookingOf (Ref f) v → Carries m p f r
+  hands : (v : Work) → hiddenOf (nodeAt m p) ≡ true → r ≡ lookingOf (CopyOnWrite f false) v → Carries m p f r
 
 module _ (m : Mode) where
   serve-carries : (p : Place) (s : PageState) (w : Work) (r : Looking) → Serves m false p s false w r → Carries m p (s .frame) r
@@ -41,10 +41,10 @@ module _ (m : Mode) where
   descent-carries w s zero p (stands x e) = serve-carries p x w _ (serves m false p x false w)
   descent-carries w s (suc d) p (climbs e a y) = pass-carries p (s .frame) _ (descent-carries w s d (up m p) y)
 
-  leaf-shares : (p : Place) (f : ℕ) (r : Looking) → hiddenOf (nodeAt m p) ≡ false → Carries m p f r → (v : Work) × (r ≡ lookingOf (Shared f) v)
+  leaf-shares : (p : Place) (f : ℕ) (r : Looking) → hiddenOf (nodeAt m p) ≡ false → Carries m p f r → (v : Work) × (r ≡ lookingOf (Ref f) v)
   leaf-shares p f r leaf (shares v e) = (v, e)
   leaf-shares p f r leaf (hands v h e) = true-not h leaf
 
   -- in every mode and on all tables
-  pub read-shares : (w : Work) (s : PageState) (d : ℕ) (p : Place) → hiddenOf (nodeAt m p) ≡ false → Walks m (w .pages) d p (Has s) → (v : Work) × (along m false w p (way d (Has s)) ≡ lookingOf (Shared (s .frame)) v)
+  pub read-shares : (w : Work) (s : PageState) (d : ℕ) (p : Place) → hiddenOf (nodeAt m p) ≡ false → Walks m (w .pages) d p (Has s) → (v : Work) × (along m false w p (way d (Has s)) ≡ lookingOf (Ref (s .frame)) v)
   read-shares w s d p leaf y = leaf-shares p (s .frame) _ leaf (descent-carries w s d p y)

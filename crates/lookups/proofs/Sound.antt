@@ -12,8 +12,8 @@ use Rattle.entry.specs.Entry.{newState}
 use Rattle.node.specs.Node.{hiddenOf, leafOf}
 use Rattle.tables.specs.Tables.{nodeOf, slotAt}
 use Rattle.frames.specs.Frames.{freeFrameIn}
-use Rattle.lookup.specs.declared.Looked.{Looked}
-use Rattle.lookup.specs.declared.Looked.the-variants.{Shared, Zero, Own, New, NoMemory, Stopped}
+use Rattle.lookup.specs.declared.CommitResult.{CommitResult}
+use Rattle.lookup.specs.declared.CommitResult.the-variants.{Ref, Zero, CopyOnWrite, NewPage, NoMemory, Stopped}
 use Rattle.lookup.specs.Work.{Work, Looking, lookingOf}
 use Rattle.lookup.specs.Lookup.{look}
 use Rattle.sound.specs.Facts.{Hidden, Leaf}
@@ -39,13 +39,13 @@ use Rattle.lookup.proofs.Looks.Looks.{has, zeros, short, stops, clears, fills, 
 
 module _ (m : Mode) (B : Base (m .nodes)) (F : ℕ) where
   -- an answer that ends the lookup is the node's too
-  final-keeps : (n h : ℕ) (write : Bool) (r : Looked) (v : Work) → Final m write r → Keeps (m .nodes) B (m .bytes) F h r v → Keeps (m .nodes) B (m .bytes) F n r v
-  final-keeps n h write (Shared f) v z k = k
+  final-keeps : (n h : ℕ) (write : Bool) (r : CommitResult) (v : Work) → Final m write r → Keeps (m .nodes) B (m .bytes) F h r v → Keeps (m .nodes) B (m .bytes) F n r v
+  final-keeps n h write (Ref f) v z k = k
   final-keeps n h write Zero v z k = k
   final-keeps n h write NoMemory v z k = k
   final-keeps n h write Stopped v z k = k
-  final-keeps n h write (Own f u) v z k = absurd z
-  final-keeps n h write (New f) v z k = absurd z
+  final-keeps n h write (CopyOnWrite f u) v z k = absurd z
+  final-keeps n h write (NewPage f) v z k = absurd z
 
   module _ (inside : (p : Place) → hiddenOf (nodeAt m p) ≡ true → asks m p ≡ true → p .page < nodeAt m p .size) (write : Bool) (w : Work) (o : Fine m B F w) where
     abbrev Low : Place → Type 0
@@ -120,17 +120,17 @@ module _ (m : Mode) (B : Base (m .nodes)) (F : ℕ) where
         let q = looks-sound (up m p) r (up-low p (a .on)) x in
         record { still = λ c b l. q .still c b (above p (a .on) c l); keeps = final-keeps (p .node) (up m p .node) write (r .answer) (r .work) z (q .keeps) }
     looks-sound p r low (falls f v a x h e) =
-        let q = looks-sound (up m p) (lookingOf (New f) v) (up-low p (a .on)) x in
+        let q = looks-sound (up m p) (lookingOf (NewPage f) v) (up-low p (a .on)) x in
         rw e (record { still = λ c b l. q .still c b (above p (a .on) c l); keeps = (eqb-true (nodeAt m p .kind) 3 h, q .keeps .1) })
     looks-sound p r low (lands f v a x h e) =
-        let q = looks-sound (up m p) (lookingOf (New f) v) (up-low p (a .on)) x in
+        let q = looks-sound (up m p) (lookingOf (NewPage f) v) (up-low p (a .on)) x in
         rw e
         (record {
           still = λ c b l. lands-still p (low h) f v (q .keeps .1) c b l ∙ q .still c b (above p (a .on) c l);
           keeps = lands-fine p (low h) f v (q .keeps .1) (q .still (p .node) (p .page) (under p (a .on)) ∙ a .empty);
         })
     looks-sound p r low (takes f u v a x y) =
-        let q = looks-sound (up m p) (lookingOf (Own f u) v) (up-low p (a .on)) x in
+        let q = looks-sound (up m p) (lookingOf (CopyOnWrite f u) v) (up-low p (a .on)) x in
         let i = asked-low-by p low (a .on) in
         let o = lands-fine p i f v (q .keeps .1) (q .still (p .node) (p .page) (under p (a .on)) ∙ a .empty) in
         let k = serves-sound m B F p (newState f) (keptAt v p f) o (keep-holds (m .nodes) B (m .bytes) F (p .node) (p .page) i v f (q .keeps .1)) y in
@@ -142,13 +142,13 @@ module _ (N : List ℕ) (B : Base N) (M : List ℕ) (L F : ℕ) where
   unfolding asks
   inside-today p h a = asked-low N B (p .node) (p .page) (eqb-true (nodeOf N (p .node) .kind) 3 h) a
 
-  pub leaf-by : (n : ℕ) → (Hidden N n → ⊥) → (z : Looked) (w : Work) → Keeps N B L F n z w → Ok N L F w
-  leaf-by n never (Shared f) w k = k
+  pub leaf-by : (n : ℕ) → (Hidden N n → ⊥) → (z : CommitResult) (w : Work) → Keeps N B L F n z w → Ok N L F w
+  leaf-by n never (Ref f) w k = k
   leaf-by n never Zero w k = k
   leaf-by n never NoMemory w k = k
   leaf-by n never Stopped w k = k
-  leaf-by n never (Own f u) w k = absurd (never (k .0))
-  leaf-by n never (New f) w k = absurd (never (k .0))
+  leaf-by n never (CopyOnWrite f u) w k = absurd (never (k .0))
+  leaf-by n never (NewPage f) w k = absurd (never (k .0))
 
   pub look-ok : (s : Work) → Ok N L F s → (write : Bool) (k n i asker : ℕ) → Leaf N n → i < nodeOf N n .size → Ok N L F (look L k N M s n i write asker .work)
   look-ok s o write k n i asker leaf low =

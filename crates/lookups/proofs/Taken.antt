@@ -10,7 +10,7 @@ use Rattle.entry.specs.declared.PageState.{PageState}
 use Rattle.entry.specs.Entry.{splitOf, newState}
 use Rattle.node.specs.Node.{hiddenOf, sideOf}
 use Rattle.frames.specs.Frames.{freeCount, freeFrameIn}
-use Rattle.lookup.specs.declared.Looked.the-variants.{Own, New, NoMemory, Stopped}
+use Rattle.lookup.specs.declared.CommitResult.the-variants.{CopyOnWrite, NewPage, NoMemory, Stopped}
 use Rattle.lookup.specs.declared.Place.{Place}
 use Rattle.lookup.specs.declared.End.{End}
 use Rattle.lookup.specs.declared.End.the-variants.{Has, Bare, Tired}
@@ -33,12 +33,12 @@ pub record Footing (m : Mode) : Type 0 where
 
 -- what a hidden node answers its child where there is an entry above: n frames were taken
 data Owes (n : ℕ) (w : Work) (r : Looking) : Type 0 where
-  hands : (f : ℕ) (u : Bool) (v : Work) → r ≡ lookingOf (Own f u) v → freeCount (w .used) ≡ freeCount (v .used) + n → Owes n w r
+  hands : (f : ℕ) (u : Bool) (v : Work) → r ≡ lookingOf (CopyOnWrite f u) v → freeCount (w .used) ≡ freeCount (v .used) + n → Owes n w r
   lacking : (v : Work) → r ≡ lookingOf NoMemory v → freeCount (w .used) < n → freeCount (v .used) ≡ 0 → Owes n w r
 
 -- and where there is none
 data Brings (w : Work) (r : Looking) : Type 0 where
-  clears : (f : ℕ) (v : Work) → r ≡ lookingOf (New f) v → freeCount (w .used) ≡ freeCount (v .used) + 1 → Brings w r
+  clears : (f : ℕ) (v : Work) → r ≡ lookingOf (NewPage f) v → freeCount (w .used) ≡ freeCount (v .used) + 1 → Brings w r
   lacking : (v : Work) → r ≡ lookingOf NoMemory v → freeCount (w .used) < 1 → freeCount (v .used) ≡ 0 → Brings w r
   stopping : (v : Work) → r ≡ lookingOf Stopped v → freeCount (v .used) ≡ freeCount (w .used) → Brings w r
 

@@ -14,7 +14,7 @@ use Rattle.entry.specs.declared.Slot.the-variants.{Empty, Held}
 use Rattle.entry.specs.Entry.{splitOf}
 use Rattle.node.specs.Node.{hiddenOf, sideOf}
 use Rattle.tables.specs.Tables.{slotAt}
-use Rattle.lookup.specs.declared.Looked.the-variants.{Shared, Zero, Stopped}
+use Rattle.lookup.specs.declared.CommitResult.the-variants.{Ref, Zero, Stopped}
 use Rattle.lookup.specs.Work.{Work, lookingOf}
 use Rattle.tables.specs.Pool.{Pool}
 use Rattle.sound.specs.Facts.{Sound}
@@ -35,7 +35,7 @@ abbrev pub movesAt : Mode → Bool → Place → PageState → Bool
 movesAt m write p s = hiddenOf (nodeAt m p) && (not (bothAt m p) || splitOf (s .tag) || (write && splitOf (sideOf (nodeAt m p) (p .asker) .tag)))
 
 module _ (m : Mode) (write : Bool) (w : Work) where
-  stays-by : (p : Place) (s : PageState) (h b t k : Bool) → hiddenOf (nodeAt m p) ≡ h → bothAt m p ≡ b → splitOf (s .tag) ≡ t → (write && splitOf (sideOf (nodeAt m p) (p .asker) .tag)) ≡ k → (h && (not b || t || k)) ≡ false → serve m write p s false w ≡ lookingOf (Shared (s .frame)) w
+  stays-by : (p : Place) (s : PageState) (h b t k : Bool) → hiddenOf (nodeAt m p) ≡ h → bothAt m p ≡ b → splitOf (s .tag) ≡ t → (write && splitOf (sideOf (nodeAt m p) (p .asker) .tag)) ≡ k → (h && (not b || t || k)) ≡ false → serve m write p s false w ≡ lookingOf (Ref (s .frame)) w
   unfolding serve shareIn childTold leafTold
   stays-by p s false b t k h _ _ _ e = rw h
   stays-by p s true true false false h b t k e = rw (h, b, t, k)
@@ -44,10 +44,10 @@ module _ (m : Mode) (write : Bool) (w : Work) where
   stays-by p s true true false true h _ _ _ e = (true-not refl e)
 
   module _ (k d : ℕ) (p : Place) where
-    pub finds-shared : (s : PageState) → walk m k (w .pages) p ≡ way d (Has s) → movesAt m write (ups m d p) s ≡ false → lookup m k write w p ≡ lookingOf (Shared (s .frame)) w
+    pub finds-shared : (s : PageState) → walk m k (w .pages) p ≡ way d (Has s) → movesAt m write (ups m d p) s ≡ false → lookup m k write w p ≡ lookingOf (Ref (s .frame)) w
     unfolding top
     finds-shared s e n =
-        rw (e, stays-by (ups m d p) s _ _ _ _ refl refl refl refl n) (descent-final m write d p (Shared (s .frame)) w tt)
+        rw (e, stays-by (ups m d p) s _ _ _ _ refl refl refl refl n) (descent-final m write d p (Ref (s .frame)) w tt)
 
     pub finds-zeros : walk m k (w .pages) p ≡ way d Bare → write ≡ false → lookup m k write w p ≡ lookingOf Zero w
     unfolding top freshIn

@@ -7,7 +7,7 @@ use Rattle.logic.specs.Pick.{pick}
 use Rattle.entry.specs.declared.PageState.{PageState}
 use Rattle.entry.specs.Entry.{splitOf}
 use Rattle.frames.specs.Frames.{freeCount}
-use Rattle.lookup.specs.declared.Looked.the-variants.{Shared, NoMemory, Stopped}
+use Rattle.lookup.specs.declared.CommitResult.the-variants.{Ref, NoMemory, Stopped}
 use Rattle.lookup.specs.declared.Place.{Place}
 use Rattle.lookup.specs.declared.End.{End}
 use Rattle.lookup.specs.declared.End.the-variants.{Has, Bare, Tired}
@@ -41,6 +41,6 @@ need N P n i = needIn (today 0 N []) P (placeOf n i n)
 
 -- a lookup for writing takes n frames, or n are more than were free, or it stops and takes none
 pub data Pays (n : ℕ) (w : Work) (r : Looking) : Type 0 where
-  gives : (f : ℕ) (v : Work) → r ≡ lookingOf (Shared f) v → freeCount (w .used) ≡ freeCount (v .used) + n → Pays n w r
+  gives : (f : ℕ) (v : Work) → r ≡ lookingOf (Ref f) v → freeCount (w .used) ≡ freeCount (v .used) + n → Pays n w r
   refuses : (v : Work) → r ≡ lookingOf NoMemory v → freeCount (w .used) < n → freeCount (v .used) ≡ 0 → Pays n w r
   stops : (v : Work) → r ≡ lookingOf Stopped v → freeCount (v .used) ≡ freeCount (w .used) → Pays n w r

@@ -2,18 +2,18 @@
 use mathlib.Core.Path.{_≡_}
 use mathlib.Core.Bool.{false}
 use Prim.Native.Nat.{ℕ}
-use Rattle.lookup.specs.declared.Looked.{Looked}
-use Rattle.lookup.specs.declared.Looked.the-variants.{Shared, Zero, Own, New, NoMemory, Stopped}
+use Rattle.lookup.specs.declared.CommitResult.{CommitResult}
+use Rattle.lookup.specs.declared.CommitResult.the-variants.{Ref, Zero, CopyOnWrite, NewPage, NoMemory, Stopped}
 use Rattle.lookup.specs.declared.Committed.{Committed}
 use Rattle.lookup.specs.declared.Committed.the-variants.{Frame, ZeroFrame}
 use Rattle.lookup.specs.Work.{Work, Looking}
 
 -- no frame is asked for and none is handed down of which mappings are to be told; it stops only if S
-abbrev pub Reads : Type 0 → Looked → Type 0
-Reads S (Shared f) = Unit
+abbrev pub Reads : Type 0 → CommitResult → Type 0
+Reads S (Ref f) = Unit
 Reads S Zero = Unit
-Reads S (Own f u) = u ≡ false
-Reads S (New f) = ⊥
+Reads S (CopyOnWrite f u) = u ≡ false
+Reads S (NewPage f) = ⊥
 Reads S NoMemory = ⊥
 Reads S Stopped = S
 

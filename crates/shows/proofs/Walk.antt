@@ -9,7 +9,7 @@ use Rattle.node.specs.Node.{hiddenOf}
 use Rattle.tables.specs.Pool.{Pool}
 use Rattle.tables.specs.Tables.{nodeOf}
 use Rattle.outcome.specs.Told.{Told}
-use Rattle.lookup.specs.declared.Looked.the-variants.{Shared, Zero}
+use Rattle.lookup.specs.declared.CommitResult.the-variants.{Ref, Zero}
 use Rattle.lookup.specs.declared.Place.{Place}
 use Rattle.lookup.specs.declared.End.{End}
 use Rattle.lookup.specs.declared.End.the-variants.{Has, Bare, Tired}
