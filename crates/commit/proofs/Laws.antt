@@ -1,11 +1,11 @@
 -- The ways through commit_page. Assumes nothing.
-use mathlib.Core.Path.{_≡_, sym, _∙_}
+use mathlib.Core.Path.{_≡_, refl, sym, _∙_}
 use mathlib.Core.Bool.{Bool, true, false}
 use mathlib.Core.List.{List, []}
 use Prim.Native.Nat.{ℕ, _≤_, _<_}
 use borrow.Author.Tests.{le-leb, lt-leb}
 use Rattle.node.specs.declared.Node.{Node}
-use Rattle.tables.specs.Pool.{poolOf}
+use Rattle.tables.specs.Pool.{Pool, poolOf}
 use Rattle.tables.specs.Tables.{nodeOf}
 use Rattle.outcome.specs.Told.{toldOf}
 use Rattle.lookup.specs.declared.Committed.{Committed}
@@ -19,8 +19,10 @@ use Rattle.outcome.specs.declared.answer.Against.{Against}
 use Rattle.outcome.specs.declared.answer.Against.the-variants.{Why, Nothing as Fine}
 use Rattle.outcome.specs.Room.{roomOf}
 use Rattle.outcome.specs.declared.reply.Reply.{Reply}
-use Rattle.outcome.specs.Outcome.{outcomeOf, outcome, replyOf}
-use Rattle.commit.specs.Commit.{committedAnswer, pageRefusal, commitPageAt}
+use Rattle.outcome.specs.Outcome.{Outcome, outcomeOf, outcome, replyOf}
+use Rattle.outcome.proofs.Laws.{tested}
+use Rattle.pool.proofs.Laws.{on-object}
+use Rattle.commit.specs.Commit.{committedAnswer, pageRefusal, commitPageAt, commitPage}
 
 module _ (N M list : List ℕ) (n page : ℕ) {r : Node} (e : r ≡ nodeOf N n) where
   pub page-out : (write : Bool) → r .size ≤ page → Why R.the-variants.OutOfRange ≡ pageRefusal N M list n page write
@@ -47,3 +49,10 @@ module _ (N P U M H Y list : List ℕ) (n page : ℕ) (write : Bool) {a : Agains
   pub commit-done : {k : Committed} {w : Work} {r : Answer} → a ≡ Fine → committingOf k w ≡ commitLeaf 4096 N M (workOf P U Y (toldOf list 0)) n page write → r ≡ committedAnswer k → outcomeOf r (poolOf N (w .pages) (w .used) M H (w .memory)) (w .told) 0 0 [] ≡ commitPageAt 4096 (poolOf N P U M H Y) list n page write
   unfolding commitPageAt
   commit-done h l r = rw (sym e ∙ h, ← l, r)
+
+-- the call counts no frames
+pub commit-frameless : (L : ℕ) (p : Pool) (list : List ℕ) (object page : ℕ) (write : Bool) → commitPage L p list object page write .taken ≡ 0
+unfolding commitPageAt
+commit-frameless L p list object page write =
+    on-object (λ (o : Outcome Answer). o .taken ≡ 0) L p object (λ r. refl)
+    (λ n. tested (λ (o : Outcome Answer). o .taken ≡ 0) (pageRefusal (p .nodes) (p .mappings) list n page write) (λ r. refl) refl)
