@@ -29,7 +29,7 @@ use Rattle.page.specs.Pages.{storedBy, wrotePage, writeBy, writePage, fetchedBy
 use Rattle.ranges.specs.Ranges.{rangedBy, againstWriting, writeRange, written, writeThrough, writeAt, againstReading, readRange, filled, readAt}
 use Rattle.births.proofs.Calls.{new-sound, child-sound}
 use Rattle.arrays.proofs.Sound.{read-sound, write-sound}
-use Rattle.cases.specs.Script.{Line, Result, Step, stepOf, says, byOutcome, byFilled, blot, step, Row, repliesBy, repliesIn, Table}
+use Rattle.cases.specs.Script.{Line, Result, After, afterOf, says, byOutcome, byFilled, blot, step, Row, repliesBy, repliesIn, Table}
 use Rattle.cases.specs.Script.Line.{New, Child, Write, Read, Free}
 
 -- an object entered, after the sound test
@@ -37,7 +37,7 @@ abbrev located : Pool → ℕ → Entered
 located p object = pick (ltb object 64 && leafOf (nodeOf (p .nodes) object)) (At object) (Refused NoObject)
 
 -- a call as its rule has it after the sound test
-unfoldable pub quick : ℕ → Pool → Line → Step
+unfoldable pub quick : ℕ → Pool → Line → After
 unfolding leafAt newLeaf onEntered childAt againstChild numberChild withChild withBoth born bornNodes relinked roomOf liveCount liveOne writeAt againstWriting writeThrough written writeRange writePage writeBy wrotePage storedBy rangedBy readAt againstReading readRange readPage readBy lookRead readThrough fetchedBy filled containsOf cachedOf each onward pagesOf blockEnd nextBy nextOf countOf look enter handedBy settle settleBy leafTold hiddenStep shareOr otherTold part partBy fresh freshBy cleared asksOf rangeChange childOf tellObject tellPlace overlapOf putNotice freeCount oneIdle idleOf freeFrameIn pastedAt blankAt clearedAt copiedAt nodeOf recordOf wordOf withNode withFive withWord entryOf slotAt withEntry withState withoutState rowMoved mappingOf numberOf isFree freeNodeIn freeNodeFrom tagOf stateOf slotOf entryWord outOf sideOf sumBelow firstFrom copied zeroed
 quick L p (New pages) = byOutcome (pick (leb pages 64) (newLeaf p pages) (refused p [] [] InvalidArgs))
 quick L p (Child object first count) =
@@ -45,7 +45,7 @@ quick L p (Child object first count) =
 quick L p (Write object offset byte len) =
     byOutcome (onEntered (refused p [] []) (λ n. writeAt L p [] n offset (replicate len byte)) (located p object))
 quick L p (Read object offset len) = byFilled (onEntered (refused p [] (blot len)) (λ n. readAt L p n offset (blot len)) (located p object))
-quick L p Free = stepOf (says 0 (freeCount (p .used))) p
+quick L p Free = afterOf (says 0 (freeCount (p .used))) p
 
 module _ (L : ℕ) where
   quick-is : (p : Pool) → sound L p ≡ true → (l : Line) → step L p l ≡ quick L p l

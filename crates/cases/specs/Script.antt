@@ -37,34 +37,34 @@ says c v = record { code = c; value = v; bytes = [] }
 abbrev pub reads : List ℕ → Result
 reads b = record { code = 0; value = 0; bytes = b }
 
-pub record Step : Type 0 where
+pub record After : Type 0 where
   pub reply : Result
   pub pool : Pool
 
-abbrev pub stepOf : Result → Pool → Step
-stepOf r p = record { reply = r; pool = p }
+abbrev pub afterOf : Result → Pool → After
+afterOf r p = record { reply = r; pool = p }
 
 -- a call's answer; a refused write gives the bytes done
-abbrev pub byOutcome : Outcome Answer → Step
-byOutcome o = stepOf (says (codeOf (o .answer)) (valueOf (o .answer) (o .done))) (o .pool)
+abbrev pub byOutcome : Outcome Answer → After
+byOutcome o = afterOf (says (codeOf (o .answer)) (valueOf (o .answer) (o .done))) (o .pool)
 
 abbrev pub filling : Answer → List ℕ → Result
 filling (Done v) buf = reads buf
 filling (Refused r) buf = says (codeOf (Refused r)) 0
 
-abbrev pub byFilled : Outcome Answer → Step
-byFilled f = stepOf (filling (f .answer) (f .buf)) (f .pool)
+abbrev pub byFilled : Outcome Answer → After
+byFilled f = afterOf (filling (f .answer) (f .buf)) (f .pool)
 
 -- what a read's buffer holds before
 abbrev pub blot : ℕ → List ℕ
 blot len = replicate len 255
 
-unfoldable pub step : ℕ → Pool → Line → Step
+unfoldable pub step : ℕ → Pool → Line → After
 step L p (New pages) = byOutcome (new L p pages)
 step L p (Child object first count) = byOutcome (createChild L p [] object (first * L) (count * L))
 step L p (Write object offset byte len) = byOutcome (write L p [] object offset (replicate len byte))
 step L p (Read object offset len) = byFilled (read L p object offset (blot len))
-step L p Free = stepOf (says 0 (freeCount (p .used))) p
+step L p Free = afterOf (says 0 (freeCount (p .used))) p
 
 -- a line with its answer beside it
 infix 70 _⇒_
@@ -76,7 +76,7 @@ abbrev pub _⇒_ : Line → Result → Row
 l ⇒ r = record { line = l; reply = r }
 
 -- the lines, one after the other, are answered so
-unfoldable pub repliesBy : (Pool → Line → Step) → Pool → List Row → List Result
+unfoldable pub repliesBy : (Pool → Line → After) → Pool → List Row → List Result
 repliesBy step p [] = []
 repliesBy step p (r ∷ rows) = let s = step p (r .line) in s .reply ∷ repliesBy step (s .pool) rows
 

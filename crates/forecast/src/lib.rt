@@ -1,6 +1,7 @@
 // The call forecast: are there as many free frames as the range has pages that the leaf does not hold?
 use blocks::BlockIter;
 use entry::Slot;
+use node::Node;
 use outcome::Answer;
 use outcome::Refusal;
 use outcome::Reply;
@@ -17,7 +18,7 @@ fn absent(pages: &[u32], node: u32, page: u64) -> u64
     ensures { λ r. ⌜ r ≡ absentAt (now (pages .entry)) node page ⌝ }
     ensures small { λ r. ⌜ r ≤ 1 ⌝ }
 {
-    if page < 64 {
+    if page < Node::MAX_PAGES as u64 {
         let slot = tables::slot_at(pages, node, page as u32);
         match slot {
             Slot::Empty => return 1,

@@ -16,4 +16,12 @@ returns-3 c = (absent-past _ _ _ (c .if1 .left), search needs)
 pub absent-spec : {M : Type 1} → statement M
 absent-spec =
     tie.close
-    (tie.spec (λ c. search needs) (λ c κs. search needs) (λ c. search needs) returns (λ c. search needs) returns-2 returns-3)
+    (tie.spec
+    (λ c. search needs)
+    (λ c. search needs)
+    (λ c κs. search needs)
+    (λ c. search needs)
+    returns
+    (λ c. search needs)
+    returns-2
+    returns-3)
