@@ -18,7 +18,7 @@ use Rattle.outcome.specs.declared.answer.Against.{Against}
 use Rattle.outcome.specs.declared.answer.Against.the-variants.{Why, Nothing as Fine}
 use Rattle.page.specs.Each.{Part, partOf}
 use Rattle.page.specs.Pages.{againstWrite, restBy, committedOne, commitOne}
-use Rattle.ranges.specs.Ranges.{workIn, rangedBy, commitRange, committed, commitThrough}
+use Rattle.ranges.specs.Ranges.{startWork, rangedBy, commitRange, committed, commitThrough}
 use Rattle.isolation.specs.Private.{Private}
 use Rattle.isolation.specs.Kept.{poolWith, Kept}
 use Rattle.isolation.proofs.Look.{look-goes-on}
@@ -89,8 +89,8 @@ module _ (L : ℕ) (A : ℕ → ℕ → ℕ → ℕ) (p : Pool) (P : Private L A
   pub commit-through : Commits L A p n offset len (commitThrough L p list n offset len)
   unfolding commitThrough committed rangedBy
   commit-through =
-      let r = commitRange L (p .nodes) (p .mappings) n (offset / L) (len / L) (workIn p list) in
-      let c = range-commits L A p n (offset / L) (len / L) leaf (pages-inside L offset len (nodeOf (p .nodes) n .size) inside) (workIn p list) P (spent-none p n (offset / L) (workIn p list) refl refl) in
+      let r = commitRange L (p .nodes) (p .mappings) n (offset / L) (len / L) (startWork p list) in
+      let c = range-commits L A p n (offset / L) (len / L) leaf (pages-inside L offset len (nodeOf (p .nodes) n .size) inside) (startWork p list) P (spent-none p n (offset / L) (startWork p list) refl refl) in
       record {
         private = c .private;
         stays = record { nodes = refl; mappings = refl; head = refl };

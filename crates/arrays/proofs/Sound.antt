@@ -17,7 +17,7 @@ use Rattle.outcome.specs.declared.answer.Answer.{Answer}
 use Rattle.outcome.specs.Outcome.{Outcome, refused}
 use Rattle.commit.specs.Commit as One
 use Rattle.page.specs.Pages.{readOf}
-use Rattle.ranges.specs.Ranges.{workIn, rangedBy, filled, againstReading, againstWriting, againstCommitting, readRange, readAt, read, written, writeThrough, writeAt, write, committed, commitThrough, commitAt, commit}
+use Rattle.ranges.specs.Ranges.{startWork, rangedBy, filled, againstReading, againstWriting, againstCommitting, readRange, readAt, read, written, writeThrough, writeAt, write, committed, commitThrough, commitAt, commit}
 use Rattle.isolation.specs.Kept.{poolWith}
 use Rattle.soundness.proofs.Soundness.{sound-facts, facts-sound}
 use Rattle.arrays.specs.Calls.{Called}
@@ -56,7 +56,7 @@ module _ (L : ℕ) (p : Pool) (is-sound : sound L p ≡ true) where
       (called (refused p list []) (λ r. sound L (r .pool) ≡ true) (Inside L (p .nodes) object offset (length bytes)) L p object
       (λ n. againstWriting L (p .nodes) (p .mappings) list n offset (length bytes)) (λ n. writeThrough L p list n offset bytes) is-sound
       (writing-tests L (p .nodes) object offset (length bytes) (p .mappings) list)
-      (λ leaf inside. passes _ (write-fits L p facts object leaf offset bytes inside (workIn p list) (fits-first L p facts (toldOf list 0)))))
+      (λ leaf inside. passes _ (write-fits L p facts object leaf offset bytes inside (startWork p list) (fits-first L p facts (toldOf list 0)))))
 
   pub commit-sound : (list : List ℕ) (object offset len : ℕ) → sound L (commit L p list object offset len .pool) ≡ true
   unfolding commitAt commitThrough committed rangedBy
@@ -66,7 +66,7 @@ module _ (L : ℕ) (p : Pool) (is-sound : sound L p ≡ true) where
       (λ n. againstCommitting L (p .nodes) (p .mappings) list n offset len) (λ n. commitThrough L p list n offset len) is-sound
       (committing-tests L (p .nodes) object offset len (p .mappings) list)
       (λ leaf inside. passes _
-      (commit-fits L p facts object leaf (offset / L) (len / L) (pages-inside L offset len (nodeOf (p .nodes) object .size) inside) (workIn p list) (fits-first L p facts (toldOf list 0)))))
+      (commit-fits L p facts object leaf (offset / L) (len / L) (pages-inside L offset len (nodeOf (p .nodes) object .size) inside) (startWork p list) (fits-first L p facts (toldOf list 0)))))
 
   pub page-sound : (list : List ℕ) (object page : ℕ) (write : Bool) → sound L (One.commitPage L p list object page write .pool) ≡ true
   unfolding One.commitPageAt

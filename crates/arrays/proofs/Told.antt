@@ -12,11 +12,11 @@ use Rattle.logic.specs.Pick.{pick}
 use Rattle.logic.specs.declared.Found.{Found}
 use Rattle.logic.specs.declared.Found.the-variants.{At, Nothing}
 use Rattle.blocks.specs.Blocks.{iterOf, countOf}
-use Rattle.node.specs.Node.{cachedOf, containsOf}
+use Rattle.node.specs.Node.{lastOwner, cachedOf, containsOf}
 use Rattle.tables.specs.Pool.{Pool}
 use Rattle.tables.specs.Tables.{nodeOf, freeNodeIn, freeNodeFrom}
 use Rattle.outcome.specs.declared.notice.Notice.{Notice}
-use Rattle.outcome.specs.Told.{Told, toldOf}
+use Rattle.outcome.specs.Told.{removeWrite, Told, toldOf}
 use Rattle.sound.specs.Facts.{Leaf, Sound}
 use Rattle.soundness.proofs.Soundness.{sound-facts}
 use Rattle.lookup.specs.Work.{Work}
@@ -35,7 +35,7 @@ use Rattle.outcome.specs.Outcome.{Outcome, refused}
 use Rattle.child.specs.Child.{born, againstChild, withBoth, withChild, numberChild, childAt, createChild}
 use Rattle.page.specs.Each.{Part}
 use Rattle.page.specs.Pages.{writePage, commitOne}
-use Rattle.ranges.specs.Ranges.{rangedBy, workIn, againstWriting, writeRange, written, writeThrough, writeAt, write, againstCommitting, commitRange, committed, commitThrough, commitAt, commit}
+use Rattle.ranges.specs.Ranges.{rangedBy, startWork, againstWriting, writeRange, written, writeThrough, writeAt, write, againstCommitting, commitRange, committed, commitThrough, commitAt, commit}
 use Rattle.bounds.specs.Telling.{putAll, Wrote, Added}
 use Rattle.bounds.specs.Calling.{NoRoomFor}
 use Rattle.bounds.proofs.Adding.{wrote-none, wrote-in, all-wrote, all-added}
@@ -93,7 +93,7 @@ module _ (p : Pool) (n first pages : ℕ) where
   both-told : (child : ℕ) (f : Found) → TellsAll (λ list. withBoth p list n first pages child f) (liveCount (p .mappings))
   unfolding withBoth born
   both-told child (At hidden) =
-      let s = object-room (p .mappings) n first (first + pages) 2 in
+      let s = object-room (p .mappings) n first (first + pages) removeWrite in
       tested p 1 (s .notices) (omega arith) (s .few) (λ list r. rw r (s .same (toldOf list 0))) (λ list r. rw r refl)
   both-told child Nothing = silent (λ list. refl)
 
@@ -104,7 +104,7 @@ module _ (p : Pool) (n first pages : ℕ) where
 
   numbered-told : TellsAll (λ list. numberChild p list n first pages) (liveCount (p .mappings))
   unfolding numberChild
-  numbered-told = by (leb (getD (p .head) 0 0) 16777215)
+  numbered-told = by (leb (getD (p .head) 0 0) lastOwner)
     where
       by : (b : Bool) → TellsAll (λ list. pick b (withChild p list n first pages (freeNodeIn (p .nodes))) (refused p list [] R.the-variants.NoNode)) (liveCount (p .mappings))
       by true = child-told (freeNodeIn (p .nodes))
@@ -129,7 +129,7 @@ abbrev Room : Pool → ℕ → List ℕ → Against
 Room p pages list = pick (roomOf (p .mappings) list pages) Fine (Why R.the-variants.NoRoom)
 
 module _ (p : Pool) (pages : ℕ) {C : Type 0} (range : Work → Part C Work) (go : List ℕ → Outcome Answer) where
-  inside-told : ((list : List ℕ) → go list .told ≡ range (workIn p list) .state .told) → (b : Bool) (why : Refusal) → Passes (λ t. range (withTold (workIn p []) t)) (Most p pages)
+  inside-told : ((list : List ℕ) → go list .told ≡ range (startWork p list) .state .told) → (b : Bool) (why : Refusal) → Passes (λ t. range (withTold (startWork p []) t)) (Most p pages)
       → TellsAll (λ list. unless (pick b (Room p pages list) (Why why)) (refused p list []) (go list)) (Most p pages)
   inside-told same true why s =
       tested p pages (s .notices) refl (s .few)
@@ -150,7 +150,7 @@ write-loses-none L p object offset bytes =
     by s l true =
         inside-told p k (writeRange L (p .nodes) (p .mappings) object offset bytes) (λ list. writeThrough L p list object offset bytes) (λ list. refl)
         (containsOf L (nodeOf (p .nodes) object) offset (length bytes)) R.the-variants.OutOfRange
-        (each-passes (writePage L (p .nodes) (p .mappings) object offset bytes) (liveCount (p .mappings)) (write-passes L p s object l (p .mappings) offset bytes) k (iterOf offset (offset + length bytes)) (workIn p []))
+        (each-passes (writePage L (p .nodes) (p .mappings) object offset bytes) (liveCount (p .mappings)) (write-passes L p s object l (p .mappings) offset bytes) k (iterOf offset (offset + length bytes)) (startWork p []))
     by s l false = silent (λ list. refl)
 
 pub commit-range-loses-none : (L : ℕ) (p : Pool) (object offset len : ℕ) → TellsAll (λ list. commit L p list object offset len) (len / L * liveCount (p .mappings))
@@ -160,4 +160,4 @@ commit-range-loses-none L p object offset len =
     (λ s l.
     inside-told p (len / L) (commitRange L (p .nodes) (p .mappings) object (offset / L) (len / L)) (λ list. commitThrough L p list object offset len) (λ list. refl)
     (containsOf L (nodeOf (p .nodes) object) offset len) R.the-variants.OutOfRange
-    (each-passes (commitOne L (p .nodes) (p .mappings) object) (liveCount (p .mappings)) (commit-passes L p s object l (p .mappings)) (len / L) (offset / L) (workIn p [])))
+    (each-passes (commitOne L (p .nodes) (p .mappings) object) (liveCount (p .mappings)) (commit-passes L p s object l (p .mappings)) (len / L) (offset / L) (startWork p [])))

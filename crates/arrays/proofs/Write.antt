@@ -22,7 +22,7 @@ use Rattle.outcome.specs.declared.answer.Against.{Against}
 use Rattle.outcome.specs.declared.answer.Against.the-variants.{Why, Nothing as Fine}
 use Rattle.page.specs.Each.{Part, partOf}
 use Rattle.page.specs.Pages.{againstWrite, storedBy, restBy, wrotePage, writeBy, writePage}
-use Rattle.ranges.specs.Ranges.{workIn, rangedBy, writeRange, written, writeThrough}
+use Rattle.ranges.specs.Ranges.{startWork, rangedBy, writeRange, written, writeThrough}
 use Rattle.isolation.specs.Private.{Private}
 use Rattle.isolation.specs.Kept.{poolWith, Kept}
 use Rattle.isolation.proofs.Look.{look-goes-on}
@@ -183,8 +183,8 @@ module _ (L : ℕ) (A : ℕ → ℕ → ℕ → ℕ) (p : Pool) (P : Private L A
   pub write-through : Writes L A p n offset bytes (writeThrough L p list n offset bytes)
   unfolding writeThrough written rangedBy
   write-through =
-      let r = writeRange L (p .nodes) (p .mappings) n offset bytes (workIn p list) in
-      let c = range-writes L A p n offset bytes leaf inside (workIn p list) P (spent-none p n (offset / L) (workIn p list) refl refl) in
+      let r = writeRange L (p .nodes) (p .mappings) n offset bytes (startWork p list) in
+      let c = range-writes L A p n offset bytes leaf inside (startWork p list) P (spent-none p n (offset / L) (startWork p list) refl refl) in
       record {
         private = c .private;
         stays = record { nodes = refl; mappings = refl; head = refl };

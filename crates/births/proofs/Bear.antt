@@ -10,6 +10,7 @@ use borrow.Author.Tests.{leb-true}
 use Rattle.logic.specs.Pick.{pick}
 use Rattle.logic.specs.declared.Found.{Found}
 use Rattle.logic.specs.declared.Found.the-variants.{At, Nothing}
+use Rattle.node.specs.Node.{lastOwner}
 use Rattle.tables.specs.Pool.{Pool}
 use Rattle.tables.specs.Tables.{nodeOf, freeNodeIn, freeNodeFrom}
 use Rattle.outcome.specs.declared.answer.Refusal as R
@@ -45,8 +46,8 @@ module _ (L : ℕ) (p : Pool) (list : List ℕ) (S : Sound L p) (n first pages :
 
   -- what holds of the pool with its refusals, and of each birth, holds of the step
   module _ (B : Outcome Answer → Type 0) (stay : (r : R.Refusal) → B (refused p list [] r))
-      (birth : (c x : ℕ) → getD (p .head) 0 0 ≤ 16777215 → Granted (p .nodes) n x c first pages → B (born p list (birthBy n c x first pages))) where
-    both-by : (c : ℕ) → getD (p .head) 0 0 ≤ 16777215 → Free (p .nodes) 0 c → (f : Found) → freeNodeFrom (p .nodes) (c + 1) ≡ f → B (withBoth p list n first pages c f)
+      (birth : (c x : ℕ) → getD (p .head) 0 0 ≤ lastOwner → Granted (p .nodes) n x c first pages → B (born p list (birthBy n c x first pages))) where
+    both-by : (c : ℕ) → getD (p .head) 0 0 ≤ lastOwner → Free (p .nodes) 0 c → (f : Found) → freeNodeFrom (p .nodes) (c + 1) ≡ f → B (withBoth p list n first pages c f)
     unfolding withBoth
     both-by c l h (At x) e = by (roomOf (p .mappings) list 1)
       where
@@ -55,28 +56,28 @@ module _ (L : ℕ) (p : Pool) (list : List ℕ) (S : Sound L p) (n first pages :
         by false = stay R.the-variants.NoRoom
     both-by c l h Nothing e = stay R.the-variants.NoNode
 
-    child-by : getD (p .head) 0 0 ≤ 16777215 → (f : Found) → freeNodeIn (p .nodes) ≡ f → B (withChild p list n first pages f)
+    child-by : getD (p .head) 0 0 ≤ lastOwner → (f : Found) → freeNodeIn (p .nodes) ≡ f → B (withChild p list n first pages f)
     unfolding withChild
     child-by l (At c) e = both-by c l (found-free (p .nodes) (S .lengths .nodes) c e) (freeNodeFrom (p .nodes) (c + 1)) refl
     child-by l Nothing e = stay R.the-variants.NoNode
 
     pub numbered-by : B (numberChild p list n first pages)
     unfolding numberChild
-    numbered-by = by (leb (getD (p .head) 0 0) 16777215) refl
+    numbered-by = by (leb (getD (p .head) 0 0) lastOwner) refl
       where
-        by : (b : Bool) → leb (getD (p .head) 0 0) 16777215 ≡ b → B (pick b (withChild p list n first pages (freeNodeIn (p .nodes))) (refused p list [] R.the-variants.NoNode))
-        by true t = child-by (leb-true (getD (p .head) 0 0) 16777215 t) (freeNodeIn (p .nodes)) refl
+        by : (b : Bool) → leb (getD (p .head) 0 0) lastOwner ≡ b → B (pick b (withChild p list n first pages (freeNodeIn (p .nodes))) (refused p list [] R.the-variants.NoNode))
+        by true t = child-by (leb-true (getD (p .head) 0 0) lastOwner t) (freeNodeIn (p .nodes)) refl
         by false t = stay R.the-variants.NoNode
 
 module _ (L : ℕ) (p : Pool) (list : List ℕ) (n first pages : ℕ) (leaf : Leaf (p .nodes) n) (fits : first + pages ≤ nodeOf (p .nodes) n .size) (unpinned : nodeOf (p .nodes) n .«pin_count» ≡ 0) where
-  birth-facts : Sound L p → (c x : ℕ) → getD (p .head) 0 0 ≤ 16777215 → Granted (p .nodes) n x c first pages → Sound L (born p list (birthBy n c x first pages) .pool)
+  birth-facts : Sound L p → (c x : ℕ) → getD (p .head) 0 0 ≤ lastOwner → Granted (p .nodes) n x c first pages → Sound L (born p list (birthBy n c x first pages) .pool)
   unfolding born
   birth-facts S c x l g = born-sound L p n x c first pages g unpinned l S
 
   pub numbered-facts : Sound L p → Sound L (numberChild p list n first pages .pool)
   numbered-facts S = numbered-by L p list S n first pages leaf fits (λ s. Sound L (s .pool)) (λ r. S) (birth-facts S)
 
-  birth-left : Sound L p → (c x : ℕ) → getD (p .head) 0 0 ≤ 16777215 → Granted (p .nodes) n x c first pages → Gave p (λ i q. Sound L q) (born p list (birthBy n c x first pages) .answer) (born p list (birthBy n c x first pages) .pool)
+  birth-left : Sound L p → (c x : ℕ) → getD (p .head) 0 0 ≤ lastOwner → Granted (p .nodes) n x c first pages → Gave p (λ i q. Sound L q) (born p list (birthBy n c x first pages) .answer) (born p list (birthBy n c x first pages) .pool)
   unfolding born
   birth-left S c x l g = born-sound L p n x c first pages g unpinned l S
 
@@ -88,7 +89,7 @@ module _ (L : ℕ) (p : Pool) (list : List ℕ) (n first pages : ℕ) (leaf : Le
     abbrev Goes : Outcome Answer → Type 0
     Goes s = Gave p (CloneBorn L A p n first pages) (s .answer) (s .pool)
 
-    birth-gave : Private L A p → (c x : ℕ) → getD (p .head) 0 0 ≤ 16777215 → Granted (p .nodes) n x c first pages → Goes (born p list (birthBy n c x first pages))
+    birth-gave : Private L A p → (c x : ℕ) → getD (p .head) 0 0 ≤ lastOwner → Granted (p .nodes) n x c first pages → Goes (born p list (birthBy n c x first pages))
     unfolding born
     birth-gave Q c x l g = born-private L p n x c first pages g unpinned l A Q
 

@@ -9,6 +9,7 @@ use Rattle.logic.proofs.Means.{less, split}
 use Rattle.entry.specs.declared.Slot.{Slot}
 use Rattle.entry.specs.declared.Slot.the-variants.{Empty, Held}
 use Rattle.node.specs.declared.Node.{Node}
+use Rattle.node.specs.Node.{lastOwner}
 use Rattle.tables.specs.Pool.{Pool, poolOf}
 use Rattle.tables.specs.Tables.{nodeOf, slotAt, rowMoved}
 use Rattle.sound.specs.Facts.{Tree, Sound}
@@ -26,7 +27,7 @@ bornPool p n c x first pages =
     (set (p .head) 0 (getD (p .head) 0 0 + 1)) (p .memory)
 
 module _ (L : ℕ) (p : Pool) (n x c first pages : ℕ) (g : Granted (p .nodes) n x c first pages) (unpinned : nodeOf (p .nodes) n .«pin_count» ≡ 0)
-    (more : getD (p .head) 0 0 ≤ 16777215) (S : Sound L p) where
+    (more : getD (p .head) 0 0 ≤ lastOwner) (S : Sound L p) where
   abbrev N : List ℕ
   N = p .nodes
 

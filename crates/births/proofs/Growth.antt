@@ -10,7 +10,7 @@ use Rattle.logic.specs.Pick.{pick}
 use Rattle.logic.specs.Below.{sumBelow}
 use Rattle.logic.proofs.Means.{equal, less, split}
 use Rattle.node.specs.declared.Node.{Node}
-use Rattle.node.specs.Node.{freeNode}
+use Rattle.node.specs.Node.{lastOwner, freeNode}
 use Rattle.tables.specs.Tables.{nodeOf}
 use Rattle.sound.specs.Facts.{Tree}
 use Rattle.soundness.proofs.Records.{node-out}
@@ -126,7 +126,7 @@ module _ (N N′ : List ℕ) (n x c first pages next : ℕ) (D : Cloned N N′ n
       let q = ap (λ (r : Node). r .right) b in
       r .same (λ e. omega arith) (λ e. omega arith) ∙ b
 
-  pub born-tree : length N ≡ 1024 → next ≤ 16777215 → Tree N′ (next + 1)
+  pub born-tree : length N ≡ 1024 → next ≤ lastOwner → Tree N′ (next + 1)
   born-tree len more =
       let f = D .fits in
       let z = t .sizes n in

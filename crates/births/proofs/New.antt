@@ -15,7 +15,7 @@ use Rattle.logic.proofs.Means.{equal, split}
 use Rattle.entry.specs.declared.PageState.{PageState}
 use Rattle.entry.specs.declared.Slot.{Slot}
 use Rattle.entry.specs.declared.Slot.the-variants.{Empty, Held}
-use Rattle.node.specs.Node.{originNode}
+use Rattle.node.specs.Node.{lastOwner, originNode}
 use Rattle.tables.specs.Pool.{Pool, poolOf}
 use Rattle.tables.specs.Tables.{withNode, slotAt, freeNodeIn}
 use Rattle.sound.specs.Facts.{Sound}
@@ -41,7 +41,7 @@ empty-by : (y : Slot) → ((s : PageState) → y ≡ Held s → ⊥) → y ≡ E
 empty-by Empty f = refl
 empty-by (Held s) f = absurd (f s refl)
 
-module _ (L : ℕ) (p : Pool) (size i : ℕ) (small : size ≤ 64) (more : getD (p .head) 0 0 ≤ 16777215) (f : Free (p .nodes) 0 i) where
+module _ (L : ℕ) (p : Pool) (size i : ℕ) (small : size ≤ 64) (more : getD (p .head) 0 0 ≤ lastOwner) (f : Free (p .nodes) 0 i) where
   abbrev next : ℕ
   next = getD (p .head) 0 0
 
@@ -144,8 +144,8 @@ module _ (L : ℕ) (p : Pool) (size i : ℕ) (small : size ≤ 64) (more : getD 
 -- the step of new
 
 module _ (p : Pool) (size : ℕ) (len : length (p .nodes) ≡ 1024) (B : Outcome Answer → Type 0) (stay : B (refused p [] [] NoNode))
-    (birth : (i : ℕ) → getD (p .head) 0 0 ≤ 16777215 → Free (p .nodes) 0 i → B (leafAt p size (At i))) where
-  leaf-by : getD (p .head) 0 0 ≤ 16777215 → (f : Found) → freeNodeIn (p .nodes) ≡ f → B (leafAt p size f)
+    (birth : (i : ℕ) → getD (p .head) 0 0 ≤ lastOwner → Free (p .nodes) 0 i → B (leafAt p size (At i))) where
+  leaf-by : getD (p .head) 0 0 ≤ lastOwner → (f : Found) → freeNodeIn (p .nodes) ≡ f → B (leafAt p size f)
   unfolding leafAt
   leaf-by l (At i) e = birth i l (found-free (p .nodes) len i e)
   leaf-by l Nothing e = stay
@@ -153,10 +153,10 @@ module _ (p : Pool) (size : ℕ) (len : length (p .nodes) ≡ 1024) (B : Outcome
   -- what holds of the refusal and of each birth holds of it
   new-by : B (newLeaf p size)
   unfolding newLeaf
-  new-by = by (leb (getD (p .head) 0 0) 16777215) refl
+  new-by = by (leb (getD (p .head) 0 0) lastOwner) refl
     where
-      by : (b : Bool) → leb (getD (p .head) 0 0) 16777215 ≡ b → B (pick b (leafAt p size (freeNodeIn (p .nodes))) (refused p [] [] NoNode))
-      by true t = leaf-by (leb-true (getD (p .head) 0 0) 16777215 t) (freeNodeIn (p .nodes)) refl
+      by : (b : Bool) → leb (getD (p .head) 0 0) lastOwner ≡ b → B (pick b (leafAt p size (freeNodeIn (p .nodes))) (refused p [] [] NoNode))
+      by true t = leaf-by (leb-true (getD (p .head) 0 0) lastOwner t) (freeNodeIn (p .nodes)) refl
       by false t = stay
 
 module _ (L : ℕ) (p : Pool) (size : ℕ) (small : size ≤ 64) where

@@ -8,7 +8,7 @@ use Rattle.logic.specs.Below.{sumBelow}
 use Rattle.logic.proofs.Means.{equal, split}
 use Rattle.entry.specs.declared.PageState.{PageState}
 use Rattle.node.specs.declared.Node.{Node}
-use Rattle.node.specs.Node.{freeNode, originNode, leafOf}
+use Rattle.node.specs.Node.{lastOwner, freeNode, originNode, leafOf}
 use Rattle.tables.specs.Tables.{nodeOf, mappingOf}
 use Rattle.sound.specs.Facts.{Live, Hidden, Leaf, Names, Ends, Tree, Holds, Entries, Mappings}
 use Rattle.sound.specs.Facts.Ends.{none, up}
@@ -78,7 +78,7 @@ module _ (N N′ : List ℕ) (next i size : ℕ) (s : Sprung N N′ next i size)
       (λ e. rw (e, s .at-new, was-free))
       (λ ne. ap (λ (r : Node). r .«parent_offset») (s .at-old n ne)))
 
-  pub new-tree : next ≤ 16777215 → Tree N′ (next + 1)
+  pub new-tree : next ≤ lastOwner → Tree N′ (next + 1)
   new-tree most =
       record {
         left-child = λ n h. hidden-old n h (λ ne k. rw (s .at-old n ne) (names n (nodeOf N n .left) (t .left-child n k)));

@@ -6,7 +6,7 @@ use native.Mathlib.Omega.{arith}
 use lib.ListN.{getD}
 use Rattle.entry.specs.declared.Slot.{Slot}
 use Rattle.logic.proofs.Means.{equal, split}
-use Rattle.node.specs.Node.{leafOf}
+use Rattle.node.specs.Node.{lastOwner, leafOf}
 use Rattle.tables.specs.Pool.{Pool}
 use Rattle.tables.specs.Tables.{nodeOf, slotAt, rowMoved}
 use Rattle.sound.specs.Facts.{Leaf, Tree, Sound}
@@ -26,7 +26,7 @@ use Rattle.births.proofs.Written.{Granted}
 use Rattle.births.proofs.Child.{bornPool, cloned, moved, tree, born-sound, bare-c}
 
 module _ (L : ℕ) (p : Pool) (n x c first pages : ℕ) (g : Granted (p .nodes) n x c first pages) (unpinned : nodeOf (p .nodes) n .«pin_count» ≡ 0)
-    (more : getD (p .head) 0 0 ≤ 16777215) (A : ℕ → ℕ → ℕ → ℕ) (Q : Private L A p) where
+    (more : getD (p .head) 0 0 ≤ lastOwner) (A : ℕ → ℕ → ℕ → ℕ) (Q : Private L A p) where
   abbrev S : Sound L p
   S = Q .sound
 

@@ -1,6 +1,7 @@
 // The call forecast: are there as many free frames as the range has pages that the leaf does not hold?
 use blocks::BlockIter;
 use entry::Slot;
+use node::Node;
 use outcome::Answer;
 use outcome::Refusal;
 use outcome::Reply;

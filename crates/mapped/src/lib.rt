@@ -1,5 +1,6 @@
 // The calls append_mapping and remove_mapping.
 use logic::Found;
+use node::Node;
 use outcome::Answer;
 use outcome::Refusal;
 use outcome::Reply;
@@ -17,13 +18,14 @@ fn shows(first: u64, count: u64) -> bool
     ensures { λ r. ⌜ r ≡ showsOf first count ⌝ }
     ensures small { λ r. ⌜ (r ≡ true → (first ≤ 64) × (count ≤ 64)) ⌝ }
 {
-    if 64 < first {
+    let most = Node::MAX_PAGES as u64;
+    if most < first {
         return false;
     }
-    if 64 < count {
+    if most < count {
         return false;
     }
-    (1 <= count) & (first + count <= 64)
+    (1 <= count) & (first + count <= most)
 }
 
 fn append_at(mappings: &mut [u32], node: u32, first: u64, count: u64) -> Reply

@@ -34,8 +34,9 @@ rangedBy p why done w =
     outcomeOf (answerBy why done) (poolOf (p .nodes) (w .pages) (w .used) (p .mappings) (p .head) (w .memory)) (w .told) done
     (freeCount (p .used) - freeCount (w .used)) []
 
-abbrev pub workIn : Pool → List ℕ → Work
-workIn p list = workOf (p .pages) (p .used) (p .memory) (toldOf list 0)
+-- what a call that sends notices starts from
+abbrev pub startWork : Pool → List ℕ → Work
+startWork p list = workOf (p .pages) (p .used) (p .memory) (toldOf list 0)
 
 -- write: BAD_STATE, OUT_OF_RANGE, NO_ROOM; then page by page
 unfoldable pub againstWriting : ℕ → List ℕ → List ℕ → List ℕ → ℕ → ℕ → ℕ → Against
@@ -54,7 +55,7 @@ unfoldable pub written : Pool → ℕ → Part BlockIter Work → Outcome Answer
 written p offset r = rangedBy p (r .why) (r .rest .begin - offset) (r .state)
 
 unfoldable pub writeThrough : ℕ → Pool → List ℕ → ℕ → ℕ → List ℕ → Outcome Answer
-writeThrough L p list n offset bytes = written p offset (writeRange L (p .nodes) (p .mappings) n offset bytes (workIn p list))
+writeThrough L p list n offset bytes = written p offset (writeRange L (p .nodes) (p .mappings) n offset bytes (startWork p list))
 
 unfoldable pub writeAt : ℕ → Pool → List ℕ → ℕ → ℕ → List ℕ → Outcome Answer
 writeAt L p list n offset bytes =
@@ -79,7 +80,7 @@ committed p r = rangedBy p (r .why) 0 (r .state)
 
 unfoldable pub commitThrough : ℕ → Pool → List ℕ → ℕ → ℕ → ℕ → Outcome Answer
 commitThrough L p list n offset len =
-    committed p (commitRange L (p .nodes) (p .mappings) n (offset / L) (len / L) (workIn p list))
+    committed p (commitRange L (p .nodes) (p .mappings) n (offset / L) (len / L) (startWork p list))
 
 unfoldable pub commitAt : ℕ → Pool → List ℕ → ℕ → ℕ → ℕ → Outcome Answer
 commitAt L p list n offset len =

@@ -28,7 +28,7 @@ use Rattle.ranges.specs.Ranges.{filled, againstReading, readRange, readAt, read
 use Rattle.peek.specs.declared.Shown.{Shown}
 use Rattle.peek.specs.declared.Shown.the-variants.{Nowhere}
 use Rattle.peek.specs.Peek.{zeroPageOf, shownBy, placeAt, place, shownAt, peek}
-use Rattle.shows.specs.Shows.{Peeked, Refuses, bytesRead, peekByRead}
+use Rattle.shows.specs.Shows.{Peeked, ReadRefused, bytesRead, peekByRead}
 use Rattle.shows.specs.Shows.Peeked.{nothing, bytes}
 use Rattle.shows.proofs.Whole.{page-read}
 
@@ -94,19 +94,19 @@ module _ (L : ℕ) (p : Pool) (zero : List ℕ) (object page : ℕ) (buf : List 
       by true g = called (peek-called g)
       by false g = peek-zero L p zero object page g
 
-  pub empty-peek : (zeroPageOf L zero ≡ false) ⊎ Refuses given → shown ≡ []
+  pub empty-peek : (zeroPageOf L zero ≡ false) ⊎ ReadRefused given → shown ≡ []
   empty-peek (inl bad) = peek-zero L p zero object page bad
   empty-peek (inr r) = peek-refused (r .why) (r .answer)
 
   -- pages of no bytes are shown empty, and read
-  pub peek-empty : 1 ≤ L → shown ≡ [] → (zeroPageOf L zero ≡ false) ⊎ Refuses given
+  pub peek-empty : 1 ≤ L → shown ≡ [] → (zeroPageOf L zero ≡ false) ⊎ ReadRefused given
   peek-empty one h = by (zeroPageOf L zero) refl
     where
-      called : Peeked L shown given → Refuses given
+      called : Peeked L shown given → ReadRefused given
       called (nothing why e n) = record { why = why; answer = e }
       called (bytes e b l) = let z = ap length h in absurd (omega arith)
 
-      by : (g : Bool) → zeroPageOf L zero ≡ g → (zeroPageOf L zero ≡ false) ⊎ Refuses given
+      by : (g : Bool) → zeroPageOf L zero ≡ g → (zeroPageOf L zero ≡ false) ⊎ ReadRefused given
       by true g = inr (called (peek-called g))
       by false g = inl g
 

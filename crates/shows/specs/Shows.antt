@@ -38,7 +38,7 @@ pub data Peeked (L : ℕ) (shown : List ℕ) (r : Outcome Answer) : Type 0 where
   bytes : r .answer ≡ Done 0 → shown ≡ r .buf → length shown ≡ L → Peeked L shown r
 
 -- the read is refused
-pub record Refuses (r : Outcome Answer) : Type 0 where
+pub record ReadRefused (r : Outcome Answer) : Type 0 where
   pub why : Refusal
   pub answer : r .answer ≡ Refused why
 

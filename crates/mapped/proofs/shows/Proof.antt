@@ -18,4 +18,4 @@ unfolding showsOf
 returns-3 c = (refl, λ h. (c .before .if1 .left, c .if2 .left))
 
 pub shows-spec : {M : Type 1} → statement M
-shows-spec = tie.close (tie.spec returns returns-2 (λ c. search needs) returns-3)
+shows-spec = tie.close (tie.spec (λ c. search needs) returns returns-2 (λ c. search needs) returns-3)
