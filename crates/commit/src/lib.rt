@@ -70,7 +70,15 @@ fn commit_page_at(
         Against::Why(why) => return Reply::refused(why),
         Against::Nothing => {
             let ask = Ask::of(node, page, write, 0);
-            let step = lookup::commit_page(nodes, pages, used, mappings, memory, notices, ask);
+            let step = step_descent::commit_page(
+                nodes,
+                pages,
+                used,
+                mappings,
+                memory,
+                notices,
+                ask,
+            );
             let committed = step.committed;
             let answer = committed_answer(committed);
             return Reply {

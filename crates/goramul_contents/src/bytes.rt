@@ -24,7 +24,7 @@ pub extern "C" fn goramul_read(
         outcomeOf (numbersOf r (now (value .exit))) (poolOf (now (nodes .entry)) (now (pages .exit)) (now (used .exit)) (now (mappings .entry)) (now (head .entry)) (now (memory .exit))) (toldOf [] 0) 0 0 (now (buf .exit))
         ≡ inNumbers (read 4096 (poolOf (now (nodes .entry)) (now (pages .entry)) (now (used .entry)) (now (mappings .entry)) (now (head .entry)) (now (memory .entry))) object from (now (buf .entry))) ⌝ }
 {
-    let filled = ranges::read(
+    let filled = call_read::read(
         nodes,
         pages,
         used,
@@ -59,7 +59,7 @@ pub extern "C" fn goramul_write(
         outcomeOf (numbersOf r (now (value .exit))) (poolOf (now (nodes .entry)) (now (pages .exit)) (now (used .exit)) (now (mappings .entry)) (now (head .entry)) (now (memory .exit))) (toldOf (now (notices .exit)) (now (count .exit))) 0 (now (taken .exit)) []
         ≡ inNumbers (write 4096 (poolOf (now (nodes .entry)) (now (pages .entry)) (now (used .entry)) (now (mappings .entry)) (now (head .entry)) (now (memory .entry))) (now (notices .entry)) object offset (now (bytes .entry))) ⌝ }
 {
-    let wrote = ranges::write(
+    let wrote = call_write::write(
         nodes,
         pages,
         used,
@@ -97,7 +97,7 @@ pub extern "C" fn goramul_commit(
         outcomeOf (numbersOf r (now (value .exit))) (poolOf (now (nodes .entry)) (now (pages .exit)) (now (used .exit)) (now (mappings .entry)) (now (head .entry)) (now (memory .exit))) (toldOf (now (notices .exit)) (now (count .exit))) 0 (now (taken .exit)) []
         ≡ inNumbers (commit 4096 (poolOf (now (nodes .entry)) (now (pages .entry)) (now (used .entry)) (now (mappings .entry)) (now (head .entry)) (now (memory .entry))) (now (notices .entry)) object offset len) ⌝ }
 {
-    let committed = ranges::commit(
+    let committed = call_commit::commit(
         nodes,
         pages,
         used,

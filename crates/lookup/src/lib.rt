@@ -1,13 +1,7 @@
-// Page lookup (commit_page_internal, paged.rs 531 to 640): a walk up the parents that moves nothing, and the descent of what it found.
-mod committing;
-mod descent;
-mod level;
-mod walking;
+// What page lookup is about (commit_page_internal, paged.rs 531 to 640); its rule is in specs/, its code in the crates above.
 
-pub use committing::commit_page;
 use entry::PageState;
 use outcome::Refusal;
-pub use walking::walk;
 ghost use mathlib.Core.Path.{_≡_};
 ghost use Rattle.lookup.specs.Commit.{askOf};
 

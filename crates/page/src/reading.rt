@@ -59,7 +59,7 @@ fn find_read(
 {
     let mut none: [u32; 0] = [];
     let ask = Ask::of(node, page, false, 0);
-    let step = lookup::commit_page(nodes, pages, used, mappings, memory, &mut none, ask);
+    let step = step_descent::commit_page(nodes, pages, used, mappings, memory, &mut none, ask);
     step.committed
 }
 

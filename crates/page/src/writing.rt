@@ -75,7 +75,15 @@ pub fn write_page(
         }
         Next::Block(b, rest) => {
             let ask = Ask::of(node, b.block, true, count);
-            let step = lookup::commit_page(nodes, pages, used, mappings, memory, notices, ask);
+            let step = step_descent::commit_page(
+                nodes,
+                pages,
+                used,
+                mappings,
+                memory,
+                notices,
+                ask,
+            );
             let committed = step.committed;
             let count = step.count;
             store(memory, committed, b, bytes, it.begin - offset);
@@ -113,7 +121,7 @@ pub fn commit_one(
     ensures near { λ r. ⌜ r .rest ≤ page + 1 ⌝ }
 {
     let ask = Ask::of(node, page, true, count);
-    let step = lookup::commit_page(nodes, pages, used, mappings, memory, notices, ask);
+    let step = step_descent::commit_page(nodes, pages, used, mappings, memory, notices, ask);
     let committed = step.committed;
     let why = against_write(committed);
     match why {

@@ -73,7 +73,7 @@ fn place_at(nodes: &[u32], pages: &[u32], node: u32, page: u64) -> Shown
         return Shown::Nowhere;
     }
     if page < n.size as u64 {
-        let walked = lookup::walk(
+        let walked = step_walk::walk(
             nodes,
             pages,
             Place {

@@ -1,13 +1,7 @@
-// The calls read, write and commit: a range of an object, page by page.
-mod committing;
-mod reading;
-mod writing;
+// What read, write and commit share; their rules are in specs/.
 
-pub use committing::commit;
 use outcome::Against;
 use outcome::Answer;
-pub use reading::read;
-pub use writing::write;
 ghost use mathlib.Core.Path.{_≡_};
 ghost use Prim.Native.Nat.{_-_};
 ghost use Rattle.ranges.specs.Ranges.{answerBy};

@@ -24,7 +24,7 @@ pub fn read(
     memory: &mut [u8],
     buf: &mut [u8],
 ) -> Did {
-    let reply = ranges::read(
+    let reply = call_read::read(
         nodes,
         pages,
         used,
@@ -65,7 +65,7 @@ pub fn write(
         return Did::Nothing;
     }
     bytes::fill(buf, line.c, line.e);
-    let done = ranges::write(
+    let done = call_write::write(
         nodes,
         pages,
         used,
@@ -91,7 +91,7 @@ pub fn commit(
     memory: &mut [u8],
     notices: &mut [u32],
 ) -> Did {
-    Did::Said(ranges::commit(
+    Did::Said(call_commit::commit(
         nodes,
         pages,
         used,

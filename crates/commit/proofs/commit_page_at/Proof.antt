@@ -8,7 +8,7 @@ use Rattle.commit.proofs.commit_page_at.Lts as lts
 use Rattle.commit.proofs.committed_answer.Reads as committed-answer-reads
 use Rattle.commit.proofs.page_refusal.Reads as page-refusal-reads
 use Rattle.lookup.proofs.Ask.of.Reads as of-reads
-use Rattle.lookup.proofs.commit_page.Reads as commit-page-reads
+use Rattle.step_descent.proofs.commit_page.Reads as commit-page-reads
 use Rattle.outcome.proofs.reply.Reply.refused.Reads as refused-reads
 
 -- src/lib.rt:68:9

@@ -6,7 +6,7 @@ use Rattle.peek.proofs.place_at.Statement.{statement}
 use Rattle.peek.proofs.place_at.Tie as tie
 use Rattle.peek.proofs.place_at.Reads as reads
 use Rattle.peek.proofs.place_at.Lts as lts
-use Rattle.lookup.proofs.walk.Reads as walk-reads
+use Rattle.step_walk.proofs.walk.Reads as walk-reads
 use Rattle.node.proofs.Node.is_cached.Reads as is-cached-reads
 use Rattle.peek.proofs.shown_by.Reads as shown-by-reads
 use Rattle.tables.proofs.node_at.Reads as node-at-reads

@@ -6,7 +6,7 @@ use Rattle.page.proofs.reading.find_read.Tie as tie
 use Rattle.page.proofs.reading.find_read.Reads as reads
 use Rattle.page.proofs.reading.find_read.Lts as lts
 use Rattle.lookup.proofs.Ask.of.Reads as of-reads
-use Rattle.lookup.proofs.commit_page.Reads as commit-page-reads
+use Rattle.step_descent.proofs.commit_page.Reads as commit-page-reads
 
 -- src/reading.rt:61:9
 of-requires : tie.Need-of-requires

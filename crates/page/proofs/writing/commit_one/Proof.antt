@@ -7,7 +7,7 @@ use Rattle.page.proofs.writing.commit_one.Tie as tie
 use Rattle.page.proofs.writing.commit_one.Reads as reads
 use Rattle.page.proofs.writing.commit_one.Lts as lts
 use Rattle.lookup.proofs.Ask.of.Reads as of-reads
-use Rattle.lookup.proofs.commit_page.Reads as commit-page-reads
+use Rattle.step_descent.proofs.commit_page.Reads as commit-page-reads
 use Rattle.page.proofs.writing.against_write.Reads as against-write-reads
 
 -- src/writing.rt:115:9

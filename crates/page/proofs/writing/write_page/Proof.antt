@@ -8,7 +8,7 @@ use Rattle.page.proofs.writing.write_page.Reads as reads
 use Rattle.page.proofs.writing.write_page.Lts as lts
 use Rattle.blocks.proofs.BlockIter.next.Reads as next-reads
 use Rattle.lookup.proofs.Ask.of.Reads as of-reads
-use Rattle.lookup.proofs.commit_page.Reads as commit-page-reads
+use Rattle.step_descent.proofs.commit_page.Reads as commit-page-reads
 use Rattle.page.proofs.writing.against_write.Reads as against-write-reads
 use Rattle.page.proofs.writing.store.Reads as store-reads
 
