@@ -16,8 +16,8 @@ use Rattle.frames.specs.Frames.{idleOf, oneIdle, freeCount, freeFrameIn, pasted
 use Rattle.notices.specs.Notices.{putNotice, overlapOf, tellPlace, tellObject, childOf, rangeChange}
 use Rattle.lookup.specs.Lookup.{asksOf, cleared, freshBy, fresh, partBy, part, otherTold, shareOr, hiddenStep, leafTold, settleBy, settle, handedBy, enter, look}
 use Rattle.sound.specs.Sound.{sound}
-use Rattle.pool.specs.declared.answer.Refusal.{Refusal}
-use Rattle.pool.specs.declared.answer.Refusal.the-variants.{InvalidArgs}
+use Rattle.outcome.specs.declared.answer.Refusal.{Refusal}
+use Rattle.outcome.specs.declared.answer.Refusal.the-variants.{InvalidArgs}
 use Rattle.pool.specs.Calls.{callOf, refused, leafAt, newLeaf, new, findObject, atNode, onNode, lenOf}
 use Rattle.commit.specs.Noted.{refusedOf, liveOne, liveCount, roomOf}
 use Rattle.child.specs.Child.{relinked, bornNodes, born, againstChild, withBoth, withChild, numbered, childAt}
@@ -41,8 +41,8 @@ atObject p object refuse does = atNode refuse does (findObject (p .nodes) object
 
 unfoldable pub quickAside : ℕ → Pool → Aside → Effect
 unfolding atNode findObject appendAt appendBy shownOf append M.appendBy freePlace isFreeAt freeNumber unused notAt withMapping lenOf nodeOf recordOf wordOf mappingOf numberOf firstFrom allBelow
-quickAside L p (Len n) = let r = atObject p n (λ r. refused r p) (λ m. callOf (lenOf L (p .nodes) m) p) in effectOf (r .answer) 0 [] (r .pool)
-quickAside L p (Append n first pages) = let r = atObject p n (λ r. refused r p) (λ m. appendAt p m first pages) in effectOf (r .answer) 0 [] (r .pool)
+quickAside L p (Len n) = let r = atObject p n (refused p [] []) (λ m. saying (lenOf L (p .nodes) m) p) in effectOf (r .answer) 0 [] (r .pool)
+quickAside L p (Append n first pages) = let r = atObject p n (refused p [] []) (λ m. appendAt p m first pages) in effectOf (r .answer) 0 [] (r .pool)
 quickAside L p (Commit list n offset bytes) = asideEffect L p (Commit list n offset bytes)
 quickAside L p (CommitPage list n page writing) = asideEffect L p (CommitPage list n page writing)
 quickAside L p (Peek zero n page) = asideEffect L p (Peek zero n page)
@@ -51,12 +51,12 @@ quickAside L p (Remove n mapping) = asideEffect L p (Remove n mapping)
 
 unfoldable pub quick : ℕ → Pool → Command → Effect
 unfolding leafAt newLeaf atNode findObject childAt againstChild numbered withChild withBoth born bornNodes relinked roomOf liveCount liveOne writeAt againstWriting writeThrough written writeRange writePage writeBy wrotePage storedBy rangedBy readAt againstReading readRange readPage readBy lookRead readThrough fetchedBy filled insideOf cachedOf each onward pagesOf blockEnd nextBy nextOf countOf look enter handedBy settle settleBy leafTold hiddenStep shareOr otherTold part partBy fresh freshBy cleared asksOf rangeChange childOf tellObject tellPlace overlapOf putNotice freeCount oneIdle idleOf freeFrameIn pastedAt blankAt clearedAt copiedAt nodeOf recordOf wordOf withNode withFive withWord entryOf slotAt withEntry withState withoutState rowMoved mappingOf numberOf isFree freeNodeIn freeNodeFrom tagOf stateOf slotOf entryWord outOf sideOf sumBelow firstFrom copied zeroed
-quick L p (New pages) = let r = pick (leb pages 64) (newLeaf p pages) (refused InvalidArgs p) in effectOf (r .answer) 0 [] (r .pool)
+quick L p (New pages) = let r = pick (leb pages 64) (newLeaf p pages) (refused p [] [] InvalidArgs) in effectOf (r .answer) 0 [] (r .pool)
 quick L p (Child list n offset bytes) =
-    let r = atObject p n (refusedOf p list) (λ m. childAt L p list m offset bytes) in effectOf (r .answer) 0 [] (r .pool)
+    let r = atObject p n (refused p list []) (λ m. childAt L p list m offset bytes) in effectOf (r .answer) 0 [] (r .pool)
 quick L p (Write list n offset bytes) =
-    let r = atObject p n (refusedRange p list) (λ m. writeAt L p list m offset bytes) in effectOf (r .said .answer) (r .done) [] (r .said .pool)
-quick L p (Read n offset buf) = let r = atObject p n (unfilled p buf) (λ m. readAt L p m offset buf) in effectOf (r .answer) 0 (r .buf) (r .pool)
+    let r = atObject p n (refused p list []) (λ m. writeAt L p list m offset bytes) in effectOf (r .answer) (r .done) [] (r .pool)
+quick L p (Read n offset buf) = let r = atObject p n (refused p [] buf) (λ m. readAt L p m offset buf) in effectOf (r .answer) 0 (r .buf) (r .pool)
 quick L p (Also c) = quickAside L p c
 
 module _ (L : ℕ) where

@@ -6,9 +6,9 @@ use Prim.Native.Nat.{ℕ, _*_}
 use lib.ListN.{replicate}
 use Rattle.tables.specs.Pool.{Pool}
 use Rattle.frames.specs.Frames.{freeCount}
-use Rattle.pool.specs.declared.answer.Answer.{Answer}
-use Rattle.pool.specs.declared.answer.Answer.the-variants.{Done, Refused}
-use Rattle.pool.specs.Answers.{codeOf, valueOf}
+use Rattle.outcome.specs.declared.answer.Answer.{Answer}
+use Rattle.outcome.specs.declared.answer.Answer.the-variants.{Done, Refused}
+use Rattle.outcome.specs.Answers.{codeOf, valueOf}
 use Rattle.runs.specs.Runs.{Command, Effect, effect}
 use Rattle.runs.specs.Runs.Command.{New as Newly, Child as Cloned, Read as Reads, Write as Writes}
 

@@ -9,10 +9,11 @@ use lib.ListN.{length, take, drop, replicate, length-replicate}
 use borrow.Author.Tests.{eqb-true, eqb-false}
 use Rattle.logic.specs.Pick.{pick}
 use Rattle.tables.specs.Pool.{Pool}
+use Rattle.tables.specs.Tables.{nodeOf}
 use Rattle.sound.specs.Facts.{Leaf}
-use Rattle.pool.specs.declared.answer.Answer.the-variants.{Done, Refused}
-use Rattle.pool.specs.declared.answer.Refusal.the-variants.{OutOfRange}
-use Rattle.ranges.specs.Ranges.{cachedOf}
+use Rattle.outcome.specs.declared.answer.Answer.the-variants.{Done, Refused}
+use Rattle.outcome.specs.declared.answer.Refusal.the-variants.{OutOfRange}
+use Rattle.node.specs.Node.{cachedOf}
 use Rattle.runs.specs.Runs.{Command, Result, resultOf, effect, history}
 use Rattle.runs.specs.Runs.Command.{New, Child, Read, Write, Also}
 use Rattle.runs.specs.Arrays.{Arrays, overwritten, arrayBy, arraysAfter, readArray}
@@ -53,14 +54,14 @@ pub record Follows (cached : Bool) (a : List ℕ) (rs : List Result) (ds : List 
   pub reads : rs ≡ replay cached a ds
   pub ends : end ≡ ending a ds
 
-same-cached : {o : ℕ} {N N′ : List ℕ} → Same o N N′ → cachedOf N′ o ≡ cachedOf N o
+same-cached : {o : ℕ} {N N′ : List ℕ} → Same o N N′ → cachedOf (nodeOf N′ o) ≡ cachedOf (nodeOf N o)
 unfolding cachedOf
 same-cached s = rw (s .policy)
 
 -- one call before replies rs and deeds ds, which follow from the array after it
 module _ (L : ℕ) (A : Arrays) (p : Pool) (I : Isolated L A p) (o : ℕ) (live : Leaf (p .nodes) o) (rs : List Result) (ds : List Deed) (end : List ℕ) where
   abbrev cached : Bool
-  cached = cachedOf (p .nodes) o
+  cached = cachedOf (nodeOf (p .nodes) o)
 
   abbrev After : Command → Type 0
   After c = Follows cached (arrayBy L A c (effect L p c .result) o) rs ds end
@@ -110,7 +111,7 @@ module _ (L : ℕ) (A : Arrays) (p : Pool) (I : Isolated L A p) (o : ℕ) (live 
   turn (Also c) f = still (Also c) (λ l x y e. let z : _≡_ {A = ℕ} 0 1 = cc in omega arith) f
 
 pub follows : (L : ℕ) (A : Arrays) (p : Pool) → Isolated L A p → (o : ℕ) → Leaf (p .nodes) o → (run : List Command)
-    → let h = history L p run in Follows (cachedOf (p .nodes) o) (A o) (readsOf o h) (deeds o h) (arraysAfter L A h o)
+    → let h = history L p run in Follows (cachedOf (nodeOf (p .nodes) o)) (A o) (readsOf o h) (deeds o h) (arraysAfter L A h o)
 unfolding history readsOf deeds arraysAfter replay ending
 follows L A p I o live [] = record { reads = refl; ends = refl }
 follows L A p I o live (c ∷ cs) =

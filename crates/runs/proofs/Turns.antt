@@ -12,9 +12,9 @@ use Rattle.node.specs.Node.{leafOf}
 use Rattle.tables.specs.Pool.{Pool}
 use Rattle.tables.specs.Tables.{nodeOf}
 use Rattle.sound.specs.Facts.{Leaf}
-use Rattle.pool.specs.declared.answer.Answer.{Answer}
-use Rattle.pool.specs.declared.answer.Answer.the-variants.{Done, Refused}
-use Rattle.pool.specs.declared.answer.Refusal.the-variants.{NoMemory}
+use Rattle.outcome.specs.declared.answer.Answer.{Answer}
+use Rattle.outcome.specs.declared.answer.Answer.the-variants.{Done, Refused}
+use Rattle.outcome.specs.declared.answer.Refusal.the-variants.{NoMemory}
 use Rattle.pool.specs.Calls.{new}
 use Rattle.child.specs.Child.{createChild}
 use Rattle.ranges.specs.Ranges.{read, write}
@@ -82,7 +82,7 @@ module _ (L : ℕ) (A : Arrays) (p : Pool) (I : Isolated L A p) where
       clone-live o n (offset / L) (len / L) (r .answer) (r .pool) (child-arrays L B p (I .private) list n offset len)
   turn-live o (Read n offset buf) = stay-live o (read L p n offset buf .pool) (read-nodes L B p (I .private) n offset buf)
   turn-live o (Write list n offset bytes) =
-      stay-live o (write L p list n offset bytes .said .pool) (write-nodes L B p (I .private) list n offset bytes)
+      stay-live o (write L p list n offset bytes .pool) (write-nodes L B p (I .private) list n offset bytes)
   turn-live o (Also c) = stay-live o (asideEffect L p c .pool) (aside-still L B p (I .private) c .nodes)
 
   -- a live object: its record stays, and its array changes by its own writes alone

@@ -3,8 +3,8 @@ use mathlib.Core.Bool.{Bool}
 use mathlib.Core.List.{List, [], _∷_}
 use Prim.Native.Nat.{ℕ}
 use Rattle.tables.specs.Pool.{Pool}
-use Rattle.pool.specs.declared.answer.Answer.{Answer}
-use Rattle.pool.specs.declared.answer.Answer.the-variants.{Done}
+use Rattle.outcome.specs.declared.answer.Answer.{Answer}
+use Rattle.outcome.specs.declared.answer.Answer.the-variants.{Done}
 use Rattle.pool.specs.Calls.{start, new, len}
 use Rattle.mapped.specs.Mapped.{appendMapping, removeMapping}
 use Rattle.forecast.specs.Forecast.{forecast}
@@ -50,7 +50,7 @@ effectOf a d b p = record { result = resultOf a d b; pool = p }
 
 -- by the rules of the calls themselves; a peek is a function to bytes, which are none where it shows nothing
 unfoldable pub asideEffect : ℕ → Pool → Aside → Effect
-asideEffect L p (Commit list n offset bytes) = let r = commit L p list n offset bytes in effectOf (r .said .answer) 0 [] (r .said .pool)
+asideEffect L p (Commit list n offset bytes) = let r = commit L p list n offset bytes in effectOf (r .answer) 0 [] (r .pool)
 asideEffect L p (CommitPage list n page writing) = let r = commitPage L p list n page writing in effectOf (r .answer) 0 [] (r .pool)
 asideEffect L p (Len n) = let r = len L p n in effectOf (r .answer) 0 [] (r .pool)
 asideEffect L p (Peek zero n page) = effectOf (Done 0) 0 (peek L p zero n page) p
@@ -62,7 +62,7 @@ unfoldable pub effect : ℕ → Pool → Command → Effect
 effect L p (New pages) = let r = new L p pages in effectOf (r .answer) 0 [] (r .pool)
 effect L p (Child list n offset bytes) = let r = createChild L p list n offset bytes in effectOf (r .answer) 0 [] (r .pool)
 effect L p (Read n offset buf) = let r = read L p n offset buf in effectOf (r .answer) 0 (r .buf) (r .pool)
-effect L p (Write list n offset bytes) = let r = write L p list n offset bytes in effectOf (r .said .answer) (r .done) [] (r .said .pool)
+effect L p (Write list n offset bytes) = let r = write L p list n offset bytes in effectOf (r .answer) (r .done) [] (r .pool)
 effect L p (Also c) = asideEffect L p c
 
 -- the pool after a run

@@ -5,16 +5,15 @@ use mathlib.Core.List.{List, [], _∷_, _++_}
 use Prim.Native.Nat.{ℕ, _*_}
 use lib.ListN.{length, replicate}
 use Rattle.logic.specs.Pick.{pick}
-use Rattle.node.specs.Node.{leafOf}
+use Rattle.node.specs.Node.{leafOf, cachedOf}
 use Rattle.tables.specs.Pool.{Pool}
 use Rattle.tables.specs.Tables.{nodeOf}
 use Rattle.frames.specs.Frames.{freeCount}
 use Rattle.sound.specs.Facts.{Leaf, Lengths}
 use Rattle.sound.specs.Sound as S
-use Rattle.pool.specs.declared.answer.Answer.the-variants.{Done, Refused}
-use Rattle.pool.specs.declared.answer.Refusal.the-variants.{NoMemory, BadPool, NoObject, Stopped}
+use Rattle.outcome.specs.declared.answer.Answer.the-variants.{Done, Refused}
+use Rattle.outcome.specs.declared.answer.Refusal.the-variants.{NoMemory, BadPool, NoObject, Stopped}
 use Rattle.pool.specs.Calls.{start}
-use Rattle.ranges.specs.Ranges.{cachedOf}
 use Rattle.peek.specs.Peek.{zeroPageOf}
 use Rattle.runs.specs.Runs.{Command, effect, after, eventOf, history, poolAfter, historyOf}
 use Rattle.runs.specs.Runs.Aside.{Len, Peek}
@@ -35,10 +34,10 @@ pub record Promises (L : ℕ) (A : Arrays) (p : Pool) : Type 0 where
   pub lens : (n : ℕ) → effect L p (Also (Len n)) .result .answer ≡ pick (leafOf (nodeOf (p .nodes) n)) (Done (length (A n))) (Refused NoObject)
   -- a read of any object, at any offset and into any buffer, is what `readArray` says of the array
   pub reads : (n offset : ℕ) (buf : List ℕ)
-      → effect L p (Read n offset buf) .result ≡ readArray (leafOf (nodeOf (p .nodes) n)) (cachedOf (p .nodes) n) (A n) offset buf
+      → effect L p (Read n offset buf) .result ≡ readArray (leafOf (nodeOf (p .nodes) n)) (cachedOf (nodeOf (p .nodes) n)) (A n) offset buf
   -- lent a page of zeros, a peek shows the bytes that a read of the page gives, and nothing where that is refused
   pub peeks : (zero : List ℕ) (n page : ℕ) → effect L p (Also (Peek zero n page)) .result .buf
-      ≡ pick (zeroPageOf L zero) (bytesIn (readArray (leafOf (nodeOf (p .nodes) n)) (cachedOf (p .nodes) n) (A n) (page * L) (replicate L 0))) []
+      ≡ pick (zeroPageOf L zero) (bytesIn (readArray (leafOf (nodeOf (p .nodes) n)) (cachedOf (nodeOf (p .nodes) n)) (A n) (page * L) (replicate L 0))) []
   -- a write that is accepted has done all its bytes
   pub writes : (list : List ℕ) (n offset : ℕ) (bytes : List ℕ) (v : ℕ) → let r = effect L p (Write list n offset bytes) .result in
       r .answer ≡ Done v → (v ≡ length bytes) × (r .done ≡ length bytes)
@@ -79,7 +78,7 @@ pub record Fresh (L : ℕ) (p : Pool) (run : List Command) : Type 0 where
   pub promises : Promises L (arraysOf L p run) (poolAfter L p run)
   -- the live objects are those that the history made, and all are Cached
   pub live : (n : ℕ) → leafOf (nodeOf (poolAfter L p run .nodes) n) ≡ lives n false (historyOf L p run)
-  pub cached : (n : ℕ) → cachedOf (poolAfter L p run .nodes) n ≡ true
+  pub cached : (n : ℕ) → cachedOf (nodeOf (poolAfter L p run .nodes) n) ≡ true
   -- so what a read gives follows from the history alone
   pub reads : (n offset : ℕ) (buf : List ℕ)
       → effect L (poolAfter L p run) (Read n offset buf) .result ≡ readArray (lives n false (historyOf L p run)) true (arraysOf L p run n) offset buf
@@ -99,7 +98,7 @@ pub record Alike (L : ℕ) (A B : Arrays) (p q : Pool) (o u : ℕ) (one two : Li
 -- from any two pools that have the invariant
 abbrev pub TwoRuns : Type 0
 TwoRuns = (L : ℕ) (A B : Arrays) (p q : Pool) → Isolated L A p → Isolated L B q
-    → (o u : ℕ) → Leaf (p .nodes) o → Leaf (q .nodes) u → cachedOf (p .nodes) o ≡ cachedOf (q .nodes) u → A o ≡ B u
+    → (o u : ℕ) → Leaf (p .nodes) o → Leaf (q .nodes) u → cachedOf (nodeOf (p .nodes) o) ≡ cachedOf (nodeOf (q .nodes) u) → A o ≡ B u
     → (one two : List Command) → deeds o (history L p one) ≡ deeds u (history L q two) → Alike L A B p q o u one two
 
 -- from two fresh pools, after any two pasts that made the objects and gave them equal arrays
