@@ -41,12 +41,9 @@ pub record Step : Type 0 where
 abbrev pub stepOf : Printed → Pool → Step
 stepOf r p = record { reply = r; pool = p }
 
--- a call gives its answer's value; a write the bytes done, refused or not; a read the bytes, if it is accepted
+-- a call gives its answer's value; a refused write the bytes done; a read the bytes, if it is accepted
 abbrev pub byValue : Effect → Step
-byValue t = stepOf (says (codeOf (t .result .answer)) (valueOf (t .result .answer))) (t .pool)
-
-abbrev pub byDone : Effect → Step
-byDone t = stepOf (says (codeOf (t .result .answer)) (t .result .done)) (t .pool)
+byValue t = stepOf (says (codeOf (t .result .answer)) (valueOf (t .result .answer) (t .result .done))) (t .pool)
 
 abbrev pub filling : Answer → List ℕ → Printed
 filling (Done v) buf = reads buf
@@ -63,7 +60,7 @@ blot len = replicate len 255
 unfoldable pub stepBy : ℕ → (Pool → Command → Effect) → Pool → Line → Step
 stepBy L does p (New pages) = byValue (does p (Newly pages))
 stepBy L does p (Child object first count) = byValue (does p (Cloned [] object (first * L) (count * L)))
-stepBy L does p (Write object offset byte len) = byDone (does p (Writes [] object offset (replicate len byte)))
+stepBy L does p (Write object offset byte len) = byValue (does p (Writes [] object offset (replicate len byte)))
 stepBy L does p (Read object offset len) = byBytes (does p (Reads object offset (blot len)))
 stepBy L does p Free = stepOf (says 0 (freeCount (p .used))) p
 
