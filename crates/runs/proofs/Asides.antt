@@ -96,7 +96,7 @@ module _ (L : ℕ) (B : ℕ → ℕ → ℕ → ℕ) (p : Pool) (P : Private L B
       record { nodes = append-quiet ⊥ L p (P .sound) n first pages .nodes; private = append-arrays L B p P n first pages }
   aside-still (Remove n mapping) = record { nodes = remove-quiet ⊥ L p (P .sound) n mapping .nodes; private = remove-arrays L B p P n mapping }
 
-  pub aside-answers : (c : Aside) → Answers (Spent (TooFewFor L p c) (asideEffect L p c .pool)) (asideEffect L p c .result .answer)
+  pub aside-answers : (c : Aside) → Answers (Spent (TooFewFor L p c) (asideEffect L p c .pool)) (asideEffect L p c .answer)
   unfolding asideEffect
   aside-answers (Commit list n offset len) = commit-answers L B p P list n offset len
   aside-answers (CommitPage list n page write) = page-answers L B p P list n page write
@@ -106,7 +106,7 @@ module _ (L : ℕ) (B : ℕ → ℕ → ℕ → ℕ) (p : Pool) (P : Private L B
   aside-answers (Append n first pages) = append-quiet _ L p (P .sound) n first pages .answers
   aside-answers (Remove n mapping) = remove-quiet _ L p (P .sound) n mapping .answers
 
-  pub aside-lacks : (c : Aside) → TooFewFor L p c → asideEffect L p c .result .answer ≡ Refused NoMemory
+  pub aside-lacks : (c : Aside) → TooFewFor L p c → asideEffect L p c .answer ≡ Refused NoMemory
   unfolding asideEffect
   aside-lacks (Commit list n offset len) l = commit-lacks L B p P list n offset len l
   aside-lacks (CommitPage list n page write) l = page-lacks L B p P list n page write l

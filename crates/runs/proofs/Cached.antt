@@ -27,7 +27,7 @@ use Rattle.births.proofs.Written.{Granted}
 use Rattle.births.proofs.Fitting.{allows}
 use Rattle.births.proofs.Child.{cloned}
 use Rattle.births.proofs.Bear.{numbered-by}
-use Rattle.runs.specs.Runs.{Command, effect, after}
+use Rattle.runs.specs.Runs.{Command, effect, resultIn, after}
 use Rattle.runs.specs.Runs.Command.{New, Child, Read, Write, Also}
 use Rattle.runs.specs.Arrays.{Arrays, arrayBy}
 use Rattle.runs.specs.Isolated.{paged, Isolated}
@@ -102,4 +102,4 @@ module _ (L : ℕ) where
   unfolding after
   cached-from A p I C [] = C
   cached-from A p I C (c ∷ cs) =
-      cached-from (arrayBy L A c (effect L p c .result)) (effect L p c .pool) (step-isolated L A p I c) (step-cached A p I C c) cs
+      cached-from (arrayBy L A c (resultIn (effect L p c))) (effect L p c .pool) (step-isolated L A p I c) (step-cached A p I C c) cs

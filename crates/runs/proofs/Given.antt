@@ -27,7 +27,7 @@ use Rattle.peek.specs.Peek.{zeroPageOf, peek}
 use Rattle.shows.specs.Shows.{Peeked}
 use Rattle.shows.specs.Shows.Peeked.{nothing, bytes}
 use Rattle.shows.proofs.Peeks.{peek-called, peek-zero}
-use Rattle.runs.specs.Runs.{Result, resultOf}
+use Rattle.runs.specs.Runs.{Result, resultOf, resultIn}
 use Rattle.runs.specs.Arrays.{Arrays, readArray, bytesIn, bytesBy}
 use Rattle.runs.specs.Isolated.{paged, Isolated}
 use Rattle.runs.proofs.Lists.{is-part}
@@ -47,31 +47,32 @@ module _ (L : ℕ) (A : Arrays) (p : Pool) (I : Isolated L A p) (n : ℕ) where
       (λ (b : Bool) (r : Outcome Answer). r .answer ≡ pick b (Done (length (A n))) (Refused NoObject)) refl (λ leaf. ap Done (sym (I .lengths n leaf)))
 
   module _ (offset : ℕ) (buf : List ℕ) where
-    abbrev resulting : Outcome Answer → Result
-    resulting r = resultOf (r .answer) 0 (r .buf)
-
     abbrev range : Outcome Answer
     range = filled p (readRange L (p .nodes) (p .mappings) n offset (readOf (p .pages) (p .used) (p .memory) buf))
 
+    done-none : range .done ≡ 0
+    unfolding filled
+    done-none = refl
+
     read-inside : Leaf (p .nodes) n → offset + length buf ≤ nodeOf (p .nodes) n .size * L
-        → resulting range ≡ resultOf (Done 0) 0 (take (length buf) (drop offset (A n)))
+        → resultIn range ≡ resultOf (Done 0) 0 (take (length buf) (drop offset (A n)))
     read-inside leaf inside =
         let w = read-through L (paged L A) p (I .private) n offset buf leaf inside in
         let e = I .lengths n leaf in
-        rw (w .answer, is-part (A n) offset (length buf) (omega arith) L (range .buf) (w .size) (w .bytes))
+        rw (w .answer, done-none, is-part (A n) offset (length buf) (omega arith) L (range .buf) (w .size) (w .bytes))
 
     read-leaf : Leaf (p .nodes) n → (b c : Bool) → leb (offset + length buf) (nodeOf (p .nodes) n .size * L) ≡ c
-        → resulting (unless (pick b (pick c Fine (Why OutOfRange)) (Why BadState)) (refused p [] buf) range)
+        → resultIn (unless (pick b (pick c Fine (Why OutOfRange)) (Why BadState)) (refused p [] buf) range)
         ≡ pick b (pick c (resultOf (Done 0) 0 (take (length buf) (drop offset (A n)))) (resultOf (Refused OutOfRange) 0 buf)) (resultOf (Refused BadState) 0 buf)
     read-leaf leaf true true e = read-inside leaf (leb-true (offset + length buf) (nodeOf (p .nodes) n .size * L) e)
     read-leaf leaf true false e = refl
     read-leaf leaf false c e = refl
 
-    pub read-is : resulting (read L p n offset buf) ≡ readArray live cached (A n) offset buf
+    pub read-is : resultIn (read L p n offset buf) ≡ readArray live cached (A n) offset buf
     unfolding readAt againstReading containsOf
     read-is =
         by-leaf (refused p [] buf) (λ m. readAt L p m offset buf) L p (I .private .sound) n
-        (λ (b : Bool) (r : Outcome Answer). resulting r ≡ readArray b cached (A n) offset buf) refl
+        (λ (b : Bool) (r : Outcome Answer). resultIn r ≡ readArray b cached (A n) offset buf) refl
         (λ leaf. rw (I .lengths n leaf) (read-leaf leaf cached (leb (offset + length buf) (nodeOf (p .nodes) n .size * L)) refl))
 
   -- a peek shows what a read of the page gives

@@ -31,7 +31,7 @@ use Rattle.births.proofs.Fitting.{Allows, allows}
 use Rattle.arrays.specs.Arrays.{writeArray}
 use Rattle.arrays.proofs.Bytes.{write-none, write-other}
 use Rattle.arrays.proofs.Calls.{read-keeps, write-keeps}
-use Rattle.runs.specs.Runs.{Command, asideEffect, effect}
+use Rattle.runs.specs.Runs.{Command, asideEffect, effect, resultIn}
 use Rattle.runs.specs.Runs.Command.{New, Child, Read, Write, Also}
 use Rattle.runs.specs.Arrays.{Arrays, withArray, overwritten, newBy, childBy, arrayBy}
 use Rattle.runs.specs.Isolated.{paged, Isolated}
@@ -201,7 +201,7 @@ module _ (L : ℕ) (A : Arrays) (p : Pool) (I : Isolated L A p) where
 
   -- each of them
 
-  pub step-isolated : (c : Command) → Isolated L (arrayBy L A c (effect L p c .result)) (effect L p c .pool)
+  pub step-isolated : (c : Command) → Isolated L (arrayBy L A c (resultIn (effect L p c))) (effect L p c .pool)
   unfolding effect
   step-isolated (New pages) = blank-isolated pages (new L p pages .answer) (new L p pages .pool) (new-arrays L B p (I .private) pages)
   step-isolated (Child list n offset len) =

@@ -14,7 +14,7 @@ use Rattle.soundness.proofs.Soundness.{lengths-mean, facts-sound}
 use Rattle.pool.specs.Calls.{start}
 use Rattle.births.proofs.Calls.{start-sound, new-sound, len-sound, forecast-sound, append-sound, remove-sound, child-sound}
 use Rattle.arrays.proofs.Sound.{read-sound, write-sound, commit-sound, page-sound}
-use Rattle.runs.specs.Runs.{Aside, Command, effect, asideEffect, history, poolAfter, historyOf}
+use Rattle.runs.specs.Runs.{Aside, Command, effect, asideEffect, resultIn, history, poolAfter, historyOf}
 use Rattle.runs.specs.Runs.Aside.{Commit, CommitPage, Len, Peek, Forecast, Append, Remove}
 use Rattle.runs.specs.Runs.Command.{New, Child, Read, Write, Also}
 use Rattle.runs.specs.Arrays.{nobody, arrayBy, arraysOf, lives, readArray}
@@ -119,7 +119,7 @@ two-runs-from-birth L p lent past birth o made one two alike =
     let A = arraysOf L p past in
     let I = run-isolated L p lent past in
     let q = effect L r birth .pool in
-    let C = arrayBy L A birth (effect L r birth .result) in
+    let C = arrayBy L A birth (resultIn (effect L r birth)) in
     let leaf : Leaf (q .nodes) o = turn-live L A r I o birth ∙ ap (λ (b : Bool). pick b true (leafOf (nodeOf (r .nodes) o))) made in
     let J = step-isolated L A r I birth in
     two-runs L C C q q J J o o leaf leaf refl refl one two alike .reads
