@@ -21,7 +21,6 @@ use Rattle.outcome.specs.Outcome.{Outcome, refused}
 use Rattle.pool.specs.Calls.{saying, lenOf, len}
 use Rattle.page.specs.Pages.{readOf}
 use Rattle.ranges.specs.Ranges.{filled, againstReading, readRange, readAt, read}
-use Rattle.arrays.specs.Outcomes as O
 use Rattle.arrays.proofs.Read.{read-through}
 use Rattle.peek.specs.Peek.{zeroPageOf, peek}
 use Rattle.shows.specs.Shows.{Peeked}
