@@ -12,7 +12,7 @@ use Rattle.tables.specs.Tables.{nodeOf}
 use Rattle.lookup.specs.declared.Committed.{Committed}
 use Rattle.lookup.specs.declared.Committed.the-variants.{Frame, ZeroFrame, Refused}
 use Rattle.lookup.specs.Work.{Work}
-use Rattle.lookup.specs.Commit.{Committing, committingOf, commitLeaf}
+use Rattle.lookup.specs.Commit.{committingOf, commitLeaf}
 use Rattle.sound.specs.Facts.{Leaf}
 use Rattle.outcome.specs.declared.answer.Against.{Against}
 use Rattle.outcome.specs.declared.answer.Against.the-variants.{Why, Nothing as Fine}

@@ -20,7 +20,7 @@ use Rattle.outcome.specs.Told.{Told}
 use Rattle.lookup.specs.declared.Committed.{Committed}
 use Rattle.lookup.specs.declared.Committed.the-variants.{Frame, ZeroFrame, Refused}
 use Rattle.lookup.specs.Work.{Work, workOf}
-use Rattle.lookup.specs.Commit.{Committing, committingOf, commitLeaf}
+use Rattle.lookup.specs.Commit.{commitLeaf}
 use Rattle.sound.specs.Facts.{Leaf, Sound}
 use Rattle.outcome.specs.declared.answer.Against.{Against}
 use Rattle.outcome.specs.declared.answer.Against.the-variants.{Why, Nothing as Fine}

@@ -1,5 +1,5 @@
 -- commit_page keeps every array; it is refused exactly if the page is to be written and needs more frames than are free. Assumes nothing.
-use mathlib.Core.Path.{_≡_, refl, ap}
+use mathlib.Core.Path.{refl, ap}
 use mathlib.Core.Bool.{Bool}
 use mathlib.Core.List.{List, []}
 use mathlib.Core.Logic.{_⊎_, inl, inr}
@@ -13,7 +13,7 @@ use Rattle.outcome.specs.Told.{toldOf}
 use Rattle.lookup.specs.declared.Committed.{Committed}
 use Rattle.lookup.specs.declared.Committed.the-variants as K
 use Rattle.lookup.specs.Work.{Work, workOf}
-use Rattle.lookup.specs.Commit.{Committing, committingOf, commitLeaf}
+use Rattle.lookup.specs.Commit.{committingOf, commitLeaf}
 use Rattle.sound.specs.Facts.{Leaf}
 use Rattle.outcome.specs.Room.{roomOf}
 use Rattle.outcome.specs.declared.answer.Answer.{Answer}

@@ -3,13 +3,12 @@ use mathlib.Core.Path.{_≡_, refl, ap}
 use mathlib.Core.Bool.{Bool, true}
 use mathlib.Core.List.{List, []}
 use Prim.Native.Nat.{ℕ, _/_, _<_}
-use native.Mathlib.Omega.{arith}
 use lib.ListN.{length}
 use Rattle.tables.specs.Pool.{Pool}
 use Rattle.tables.specs.Tables.{nodeOf}
 use Rattle.outcome.specs.Told.{toldOf}
 use Rattle.lookup.specs.Work.{Work, workOf}
-use Rattle.lookup.specs.Commit.{Committing, committingOf, commitLeaf}
+use Rattle.lookup.specs.Commit.{commitLeaf}
 use Rattle.sound.specs.Sound.{sound}
 use Rattle.sound.specs.Facts.{Sound}
 use Rattle.outcome.specs.declared.answer.Refusal.{Refusal}

@@ -21,7 +21,6 @@ use Rattle.sound.specs.Facts.{Leaf, Sound}
 use Rattle.soundness.proofs.Soundness.{sound-facts}
 use Rattle.lookup.specs.Work.{Work}
 use Rattle.lookup.specs.Level.{withTold}
-use Rattle.lookup.specs.Commit.{Committing}
 use Rattle.outcome.specs.declared.answer.Refusal as R
 use Rattle.outcome.specs.declared.answer.Refusal.{Refusal}
 use Rattle.outcome.specs.declared.answer.Against.{Against}

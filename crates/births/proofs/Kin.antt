@@ -69,7 +69,7 @@ module _ (N N′ : List ℕ) (n x c first pages owner next′ : ℕ) (D : Cloned
       let k′ = hidden-kept N N′ n x c first pages owner D h k in
       ⊎-elim
       (λ e. side-left (nodeOf N′ h) m′ k′ (f e) ∙ sym (side-left (nodeOf N h) m k e))
-      (λ e. side-right (nodeOf N′ h) m′ k′ (t′ .distinct h k′) (g e) ∙ sym (side-right (nodeOf N h) m k (G .tree .distinct h k) e))
+      (λ e. side-right (nodeOf N′ h) m′ k′ (t′ .distinct h k′) (g e) ∙ sym (side-right (nodeOf N h) m k (G .base .tree .distinct h k) e))
 
   old-side : (m p : ℕ) → Old n x c m → linksOf N .asks m p ≡ true → linksOf N′ .side m ≡ linksOf N .side m
   old-side m p o a =
@@ -78,14 +78,14 @@ module _ (N N′ : List ℕ) (n x c first pages owner next′ : ℕ) (D : Cloned
       let r = D .at-old h (old-of h (q .hidden)) in
       rw (D .at-old m o .parent)
       (same-side h m m (q .hidden) (λ e. r .left .kept (λ z. o .not-n (omega arith)) ∙ e) (λ e. r .right .kept (λ z. o .not-n (omega arith)) ∙ e)
-      (G .tree .parents m h (q .parent) .1))
+      (G .base .tree .parents m h (q .parent) .1))
 
   x-side : (p : ℕ) → linksOf N .asks n p ≡ true → linksOf N′ .side x ≡ linksOf N .side n
   x-side p a =
       let h = linksOf N .par n in
       let q = asked N G n p a in
       let r = D .at-old h (old-of h (q .hidden)) in
-      rw (D .at-x) (same-side h n x (q .hidden) (r .left .moved) (r .right .moved) (G .tree .parents n h (q .parent) .1))
+      rw (D .at-x) (same-side h n x (q .hidden) (r .left .moved) (r .right .moved) (G .base .tree .parents n h (q .parent) .1))
 
   n-seen : nodeOf N n .kind ≡ 3 → ⊥
   n-seen = leaf-seen N n (D .leaf)

@@ -33,7 +33,7 @@ module _ (N N′ : List ℕ) (n x c first pages owner : ℕ) (D : Cloned N N′ 
   inside-by : (m h : ℕ) → Which n x c m → nodeOf N′ m .parent ≡ h + 1 → nodeOf N′ m .«parent_limit» ≤ nodeOf N′ h .size
   inside-by m h (is-x e) p =
       let q = parent-x m h e p in
-      let s = size-kept h (G .tree .parents n h q .0) in
+      let s = size-kept h (G .base .tree .parents n h q .0) in
       let w = G .windows .inside n h q in
       let l : nodeOf N′ m .«parent_limit» ≡ nodeOf N n .«parent_limit» = rw (e, D .at-x) in
       omega arith
@@ -48,7 +48,7 @@ module _ (N N′ : List ℕ) (n x c first pages owner : ℕ) (D : Cloned N N′ 
       omega arith
   inside-by m h (is-old o) p =
       let q = sym (D .at-old m o .parent) ∙ p in
-      let s = size-kept h (G .tree .parents m h q .0) in
+      let s = size-kept h (G .base .tree .parents m h q .0) in
       let w = G .windows .inside m h q in
       let l = D .at-old m o .limit in
       omega arith

@@ -6,8 +6,8 @@ use lib.ListN.{replicate}
 use Rattle.tables.specs.Pool.{Pool}
 use Rattle.sound.specs.Sound.{lengthsOk, sound}
 use Rattle.pool.specs.Calls.{start, freshPool}
-use Rattle.pool.specs.declared.answer.Answer.the-variants.{Done, Refused}
-use Rattle.pool.specs.declared.answer.Refusal.the-variants.{OutOfRange, NoMemory, NoObject, NoRoom}
+use Rattle.outcome.specs.declared.answer.Answer.the-variants.{Done, Refused}
+use Rattle.outcome.specs.declared.answer.Refusal.the-variants.{OutOfRange, NoMemory, NoObject, NoRoom}
 use Rattle.births.proofs.Calls.{start-done}
 use Rattle.runs.specs.Runs.{Command, resultOf, Event, eventOf, historyOf}
 use Rattle.runs.specs.Runs.Aside.{Len, Append}

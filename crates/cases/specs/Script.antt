@@ -6,10 +6,11 @@ use Prim.Native.Nat.{ℕ, _*_}
 use lib.ListN.{replicate}
 use Rattle.tables.specs.Pool.{Pool}
 use Rattle.frames.specs.Frames.{freeCount}
-use Rattle.pool.specs.declared.answer.Answer.{Answer}
-use Rattle.pool.specs.declared.answer.Answer.the-variants.{Done, Refused}
-use Rattle.pool.specs.Answers.{codeOf, valueOf}
-use Rattle.runs.specs.Runs.{Command, Effect, effect}
+use Rattle.outcome.specs.declared.answer.Answer.{Answer}
+use Rattle.outcome.specs.declared.answer.Answer.the-variants.{Done, Refused}
+use Rattle.outcome.specs.Answers.{codeOf, valueOf}
+use Rattle.outcome.specs.Outcome.{Outcome}
+use Rattle.runs.specs.Runs.{Command, effect}
 use Rattle.runs.specs.Runs.Command.{New as Newly, Child as Cloned, Read as Reads, Write as Writes}
 
 pub data Line : Type 0 where
@@ -41,29 +42,26 @@ pub record Step : Type 0 where
 abbrev pub stepOf : Printed → Pool → Step
 stepOf r p = record { reply = r; pool = p }
 
--- a call gives its answer's value; a write the bytes done, refused or not; a read the bytes, if it is accepted
-abbrev pub byValue : Effect → Step
-byValue t = stepOf (says (codeOf (t .result .answer)) (valueOf (t .result .answer))) (t .pool)
-
-abbrev pub byDone : Effect → Step
-byDone t = stepOf (says (codeOf (t .result .answer)) (t .result .done)) (t .pool)
+-- a call gives its answer's value; a refused write the bytes done; a read the bytes, if it is accepted
+abbrev pub byValue : Outcome Answer → Step
+byValue t = stepOf (says (codeOf (t .answer)) (valueOf (t .answer) (t .done))) (t .pool)
 
 abbrev pub filling : Answer → List ℕ → Printed
 filling (Done v) buf = reads buf
 filling (Refused r) buf = says (codeOf (Refused r)) 0
 
-abbrev pub byBytes : Effect → Step
-byBytes t = stepOf (filling (t .result .answer) (t .result .buf)) (t .pool)
+abbrev pub byBytes : Outcome Answer → Step
+byBytes t = stepOf (filling (t .answer) (t .buf)) (t .pool)
 
 -- what a read's buffer holds before
 abbrev pub blot : ℕ → List ℕ
 blot len = replicate len 255
 
 -- a line, where `does` says what calls give
-unfoldable pub stepBy : ℕ → (Pool → Command → Effect) → Pool → Line → Step
+unfoldable pub stepBy : ℕ → (Pool → Command → Outcome Answer) → Pool → Line → Step
 stepBy L does p (New pages) = byValue (does p (Newly pages))
 stepBy L does p (Child object first count) = byValue (does p (Cloned [] object (first * L) (count * L)))
-stepBy L does p (Write object offset byte len) = byDone (does p (Writes [] object offset (replicate len byte)))
+stepBy L does p (Write object offset byte len) = byValue (does p (Writes [] object offset (replicate len byte)))
 stepBy L does p (Read object offset len) = byBytes (does p (Reads object offset (blot len)))
 stepBy L does p Free = stepOf (says 0 (freeCount (p .used))) p
 

@@ -1,7 +1,7 @@
 -- What a call on a sound pool is never answered. Assumes nothing.
 use mathlib.Core.Path.{_≡_, subst}
 use mathlib.Core.Bool.{Bool, true, false, _&&_}
-use mathlib.Core.List.{List}
+use mathlib.Core.List.{List, []}
 use Prim.Native.Nat.{ℕ, _+_, _*_, _/_}
 use lib.Dec.{eqb, leb}
 use lib.ListN.{getD}
@@ -9,6 +9,7 @@ use Rattle.logic.specs.Pick.{pick}
 use Rattle.logic.specs.declared.Found.{Found}
 use Rattle.logic.specs.declared.Found.the-variants.{At, Nothing}
 use Rattle.blocks.specs.Blocks.{alignedOf}
+use Rattle.node.specs.Node.{cachedOf, containsOf}
 use Rattle.tables.specs.Pool.{Pool}
 use Rattle.tables.specs.Tables.{nodeOf, freeNodeIn, freeNodeFrom}
 use Rattle.sound.specs.Facts.{Sound}
@@ -19,10 +20,10 @@ use Rattle.outcome.specs.declared.answer.Refusal.{Refusal}
 use Rattle.outcome.specs.declared.answer.Refusal.the-variants.{OutOfRange, BadState, InvalidArgs, NoMemory, NotSupported, Unavailable, BadPool, NoObject, NoNode, NoRoom, Stopped, PinLedger}
 use Rattle.outcome.specs.declared.answer.Against.the-variants.{Why, Nothing as Fine}
 use Rattle.outcome.specs.Answers.{unless}
-use Rattle.pool.specs.Calls.{refused, leafAt, newLeaf, new}
-use Rattle.commit.specs.Noted.{refusedOf}
+use Rattle.outcome.specs.Outcome.{refused}
+use Rattle.pool.specs.Calls.{leafAt, newLeaf, new}
 use Rattle.outcome.specs.Room.{roomOf}
-use Rattle.child.specs.Child.{born, againstChild, withBoth, withChild, numbered, childAt, createChild}
+use Rattle.child.specs.Child.{birthBy, born, againstChild, withBoth, withChild, numberChild, childAt, createChild}
 use Rattle.arrays.specs.Calls.{ByTests}
 use Rattle.runs.proofs.Objects.{on-leaf}
 
@@ -77,7 +78,7 @@ pub new-answers : (short : Type 0) (L : ℕ) (p : Pool) → Sound L p → (size 
 unfolding new newLeaf
 new-answers short L p S size = rw (facts-sound L p S) (by (leb size 64) (leb (getD (p .head) 0 0) 16777215))
   where
-    by : (a b : Bool) → Answers short (pick a (pick b (leafAt p size (freeNodeIn (p .nodes))) (refused NoNode p)) (refused InvalidArgs p) .answer)
+    by : (a b : Bool) → Answers short (pick a (pick b (leafAt p size (freeNodeIn (p .nodes))) (refused p [] [] NoNode)) (refused p [] [] InvalidArgs) .answer)
     by true true = leaf-answers short p size (freeNodeIn (p .nodes))
     by true false = tt
     by false b = tt
@@ -87,7 +88,7 @@ module _ (short : Type 0) (p : Pool) (list : List ℕ) (n first pages : ℕ) whe
   unfolding withBoth born
   both-answers c (At x) = by (roomOf (p .mappings) list 1)
     where
-      by : (b : Bool) → Answers short (pick b (born p list n c x first pages) (refusedOf p list NoRoom) .answer)
+      by : (b : Bool) → Answers short (pick b (born p list (birthBy n c x first pages)) (refused p list [] NoRoom) .answer)
       by true = tt
       by false = tt
   both-answers c Nothing = tt
@@ -97,11 +98,11 @@ module _ (short : Type 0) (p : Pool) (list : List ℕ) (n first pages : ℕ) whe
   child-by (At c) = both-answers c (freeNodeFrom (p .nodes) (c + 1))
   child-by Nothing = tt
 
-  numbered-answers : Answers short (numbered p list n first pages .answer)
-  unfolding numbered
+  numbered-answers : Answers short (numberChild p list n first pages .answer)
+  unfolding numberChild
   numbered-answers = by (leb (getD (p .head) 0 0) 16777215)
     where
-      by : (b : Bool) → Answers short (pick b (withChild p list n first pages (freeNodeIn (p .nodes))) (refusedOf p list NoNode) .answer)
+      by : (b : Bool) → Answers short (pick b (withChild p list n first pages (freeNodeIn (p .nodes))) (refused p list [] NoNode) .answer)
       by true = child-by (freeNodeIn (p .nodes))
       by false = tt
 
@@ -110,15 +111,15 @@ module _ (short : Type 0) (L : ℕ) (p : Pool) (list : List ℕ) (n offset len :
   unfolding childAt againstChild
   tests-answer =
       by (alignedOf L offset && alignedOf L len && leb len (64 * L))
-      (eqb (nodeOf (p .nodes) n .«cache_policy») 0 && eqb (nodeOf (p .nodes) n .«pin_count») 0)
-      (leb (offset + len) (nodeOf (p .nodes) n .size * L))
+      (cachedOf (nodeOf (p .nodes) n) && eqb (nodeOf (p .nodes) n .«pin_count») 0)
+      (containsOf L (nodeOf (p .nodes) n) offset len)
     where
       by : (a b c : Bool)
-          → Answers short (unless (pick a (pick b (pick c Fine (Why OutOfRange)) (Why BadState)) (Why InvalidArgs)) (refusedOf p list) (numbered p list n (offset / L) (len / L)) .answer)
+          → Answers short (unless (pick a (pick b (pick c Fine (Why OutOfRange)) (Why BadState)) (Why InvalidArgs)) (refused p list []) (numberChild p list n (offset / L) (len / L)) .answer)
       by true true true = numbered-answers short p list n (offset / L) (len / L)
       by true true false = tt
       by true false c = tt
       by false b c = tt
 
   pub child-answers : Sound L p → Answers short (createChild L p list n offset len .answer)
-  child-answers S = on-leaf (refusedOf p list) (λ m. childAt L p list m offset len) L p S n (λ s. Answers short (s .answer)) tt (λ leaf. tests-answer)
+  child-answers S = on-leaf (refused p list []) (λ m. childAt L p list m offset len) L p S n (λ s. Answers short (s .answer)) tt (λ leaf. tests-answer)

@@ -14,10 +14,11 @@ use Rattle.tables.specs.Pool.{Pool}
 use Rattle.tables.specs.Tables.{nodeOf, freeNodeIn}
 use Rattle.sound.specs.Facts.{Sound}
 use Rattle.sound.specs.Sound.{lengthsOk, sound}
+use Rattle.outcome.specs.declared.answer.Answer.{Answer}
 use Rattle.outcome.specs.declared.answer.Refusal.the-variants.{InvalidArgs, BadPool, NoNode}
-use Rattle.pool.specs.Calls.{refused, freshPool, start, leafAt, newLeaf, new}
-use Rattle.commit.specs.Noted.{Said, refusedOf}
-use Rattle.child.specs.Child.{born, againstChild, numbered, childAt, createChild}
+use Rattle.outcome.specs.Outcome.{Outcome, refused}
+use Rattle.pool.specs.Calls.{freshPool, start, leafAt, newLeaf, new}
+use Rattle.child.specs.Child.{birthBy, born, againstChild, numberChild, childAt, createChild}
 use Rattle.births.proofs.Words.{node-same, node-away}
 use Rattle.births.proofs.First.{found-free}
 use Rattle.births.proofs.Fresh.{zero-node}
@@ -26,11 +27,11 @@ use Rattle.births.proofs.Written.{Granted}
 use Rattle.births.proofs.Fitting.{allows}
 use Rattle.births.proofs.Child.{cloned}
 use Rattle.births.proofs.Bear.{numbered-by}
-use Rattle.runs.specs.Runs.{Command, effect, after}
+use Rattle.runs.specs.Runs.{Command, effect, resultIn, after}
 use Rattle.runs.specs.Runs.Command.{New, Child, Read, Write, Also}
 use Rattle.runs.specs.Arrays.{Arrays, arrayBy}
 use Rattle.runs.specs.Isolated.{paged, Isolated}
-use Rattle.runs.proofs.Objects.{on-leaf, tested}
+use Rattle.runs.proofs.Objects.{on-leaf, by-tests}
 use Rattle.runs.proofs.Ranges.{read-nodes, write-nodes}
 use Rattle.runs.proofs.Asides.{aside-still}
 use Rattle.runs.proofs.Steps.{step-isolated}
@@ -59,7 +60,7 @@ module _ (L : ℕ) (p : Pool) (S : Sound L p) (C : Cached (p .nodes)) where
   new-cached size = by (sound L p) (leb size 64) (leb (getD (p .head) 0 0) 16777215)
     where
       by : (a b c : Bool)
-          → Cached (pick a (pick b (pick c (leafAt p size (freeNodeIn (p .nodes))) (refused NoNode p)) (refused InvalidArgs p)) (refused BadPool p) .pool .nodes)
+          → Cached (pick a (pick b (pick c (leafAt p size (freeNodeIn (p .nodes))) (refused p [] [] NoNode)) (refused p [] [] InvalidArgs)) (refused p [] [] BadPool) .pool .nodes)
       by true true true = leaf-cached size (freeNodeIn (p .nodes)) refl
       by true true false = C
       by true false c = C
@@ -71,20 +72,20 @@ module _ (L : ℕ) (p : Pool) (S : Sound L p) (C : Cached (p .nodes)) where
 
   module _ (list : List ℕ) (n : ℕ) where
     born-cached : (first pages : ℕ) → nodeOf (p .nodes) n .«pin_count» ≡ 0 → (c x : ℕ) → getD (p .head) 0 0 ≤ 16777215
-        → Granted (p .nodes) n x c first pages → Cached (born p list n c x first pages .pool .nodes)
+        → Granted (p .nodes) n x c first pages → Cached (born p list (birthBy n c x first pages) .pool .nodes)
     unfolding born
     born-cached first pages unpinned c x l g = cloned-cached (cloned L p n x c first pages g unpinned l S)
 
     child-cached : (offset len : ℕ) → Cached (createChild L p list n offset len .pool .nodes)
     unfolding childAt
     child-cached offset len =
-        on-leaf (refusedOf p list) (λ m. childAt L p list m offset len) L p S n (λ (s : Said). Cached (s .pool .nodes)) C
+        on-leaf (refused p list []) (λ m. childAt L p list m offset len) L p S n (λ (s : Outcome Answer). Cached (s .pool .nodes)) C
         (λ leaf.
-        tested (refusedOf p list) (numbered p list n (offset / L) (len / L)) (λ (s : Said). Cached (s .pool .nodes))
+        by-tests (refused p list []) (numberChild p list n (offset / L) (len / L)) (λ (s : Outcome Answer). Cached (s .pool .nodes))
         (againstChild L (nodeOf (p .nodes) n) offset len) (λ r e. C)
         (λ e.
         let a = allows L (nodeOf (p .nodes) n) offset len e in
-        numbered-by L p list S n (offset / L) (len / L) leaf (a .fits) (λ (s : Said). Cached (s .pool .nodes)) (λ r. C)
+        numbered-by L p list S n (offset / L) (len / L) leaf (a .fits) (λ (s : Outcome Answer). Cached (s .pool .nodes)) (λ r. C)
         (born-cached (offset / L) (len / L) (a .unpinned))))
 
 module _ (L : ℕ) where
@@ -101,4 +102,4 @@ module _ (L : ℕ) where
   unfolding after
   cached-from A p I C [] = C
   cached-from A p I C (c ∷ cs) =
-      cached-from (arrayBy L A c (effect L p c .result)) (effect L p c .pool) (step-isolated L A p I c) (step-cached A p I C c) cs
+      cached-from (arrayBy L A c (resultIn (effect L p c))) (effect L p c .pool) (step-isolated L A p I c) (step-cached A p I C c) cs

@@ -8,24 +8,25 @@ use lib.Dec.{leb}
 use lib.ListN.{length, take, drop, replicate, length-replicate}
 use borrow.Author.Tests.{leb-true}
 use Rattle.logic.specs.Pick.{pick}
-use Rattle.node.specs.Node.{leafOf}
+use Rattle.node.specs.Node.{leafOf, cachedOf, containsOf}
 use Rattle.tables.specs.Pool.{Pool}
 use Rattle.tables.specs.Tables.{nodeOf}
 use Rattle.sound.specs.Facts.{Leaf}
-use Rattle.pool.specs.declared.answer.Answer.the-variants.{Done, Refused}
-use Rattle.pool.specs.declared.answer.Refusal.the-variants.{OutOfRange, BadState, NoObject}
-use Rattle.pool.specs.declared.answer.Against.the-variants.{Why, Nothing as Fine}
-use Rattle.pool.specs.Answers.{unless}
-use Rattle.pool.specs.Calls.{Call, callOf, refused, lenOf, len}
+use Rattle.outcome.specs.declared.answer.Answer.{Answer}
+use Rattle.outcome.specs.declared.answer.Answer.the-variants.{Done, Refused}
+use Rattle.outcome.specs.declared.answer.Refusal.the-variants.{OutOfRange, BadState, NoObject}
+use Rattle.outcome.specs.declared.answer.Against.the-variants.{Why, Nothing as Fine}
+use Rattle.outcome.specs.Answers.{unless}
+use Rattle.outcome.specs.Outcome.{Outcome, refused}
+use Rattle.pool.specs.Calls.{saying, lenOf, len}
 use Rattle.page.specs.Pages.{readOf}
-use Rattle.ranges.specs.Ranges.{Filled, unfilled, filled, cachedOf, insideOf, againstReading, readRange, readAt, read}
-use Rattle.arrays.specs.Outcomes as O
+use Rattle.ranges.specs.Ranges.{filled, againstReading, readRange, readAt, read}
 use Rattle.arrays.proofs.Read.{read-through}
 use Rattle.peek.specs.Peek.{zeroPageOf, peek}
 use Rattle.shows.specs.Shows.{Peeked}
 use Rattle.shows.specs.Shows.Peeked.{nothing, bytes}
 use Rattle.shows.proofs.Peeks.{peek-called, peek-zero}
-use Rattle.runs.specs.Runs.{Result, resultOf}
+use Rattle.runs.specs.Runs.{Result, resultOf, resultIn}
 use Rattle.runs.specs.Arrays.{Arrays, readArray, bytesIn, bytesBy}
 use Rattle.runs.specs.Isolated.{paged, Isolated}
 use Rattle.runs.proofs.Lists.{is-part}
@@ -36,49 +37,50 @@ module _ (L : ℕ) (A : Arrays) (p : Pool) (I : Isolated L A p) (n : ℕ) where
   live = leafOf (nodeOf (p .nodes) n)
 
   abbrev cached : Bool
-  cached = cachedOf (p .nodes) n
+  cached = cachedOf (nodeOf (p .nodes) n)
 
   pub len-is : len L p n .answer ≡ pick live (Done (length (A n))) (Refused NoObject)
   unfolding lenOf
   len-is =
-      by-leaf (λ r. refused r p) (λ m. callOf (lenOf L (p .nodes) m) p) L p (I .private .sound) n
-      (λ (b : Bool) (r : Call). r .answer ≡ pick b (Done (length (A n))) (Refused NoObject)) refl (λ leaf. ap Done (sym (I .lengths n leaf)))
+      by-leaf (refused p [] []) (λ m. saying (lenOf L (p .nodes) m) p) L p (I .private .sound) n
+      (λ (b : Bool) (r : Outcome Answer). r .answer ≡ pick b (Done (length (A n))) (Refused NoObject)) refl (λ leaf. ap Done (sym (I .lengths n leaf)))
 
   module _ (offset : ℕ) (buf : List ℕ) where
-    abbrev resulting : Filled → Result
-    resulting r = resultOf (r .answer) 0 (r .buf)
-
-    abbrev range : Filled
+    abbrev range : Outcome Answer
     range = filled p (readRange L (p .nodes) (p .mappings) n offset (readOf (p .pages) (p .used) (p .memory) buf))
 
+    done-none : range .done ≡ 0
+    unfolding filled
+    done-none = refl
+
     read-inside : Leaf (p .nodes) n → offset + length buf ≤ nodeOf (p .nodes) n .size * L
-        → resulting range ≡ resultOf (Done 0) 0 (take (length buf) (drop offset (A n)))
+        → resultIn range ≡ resultOf (Done 0) 0 (take (length buf) (drop offset (A n)))
     read-inside leaf inside =
         let w = read-through L (paged L A) p (I .private) n offset buf leaf inside in
         let e = I .lengths n leaf in
-        rw (w .answer, is-part (A n) offset (length buf) (omega arith) L (range .buf) (w .size) (w .bytes))
+        rw (w .answer, done-none, is-part (A n) offset (length buf) (omega arith) L (range .buf) (w .size) (w .bytes))
 
     read-leaf : Leaf (p .nodes) n → (b c : Bool) → leb (offset + length buf) (nodeOf (p .nodes) n .size * L) ≡ c
-        → resulting (unless (pick b (pick c Fine (Why OutOfRange)) (Why BadState)) (unfilled p buf) range)
+        → resultIn (unless (pick b (pick c Fine (Why OutOfRange)) (Why BadState)) (refused p [] buf) range)
         ≡ pick b (pick c (resultOf (Done 0) 0 (take (length buf) (drop offset (A n)))) (resultOf (Refused OutOfRange) 0 buf)) (resultOf (Refused BadState) 0 buf)
     read-leaf leaf true true e = read-inside leaf (leb-true (offset + length buf) (nodeOf (p .nodes) n .size * L) e)
     read-leaf leaf true false e = refl
     read-leaf leaf false c e = refl
 
-    pub read-is : resulting (read L p n offset buf) ≡ readArray live cached (A n) offset buf
-    unfolding readAt againstReading insideOf
+    pub read-is : resultIn (read L p n offset buf) ≡ readArray live cached (A n) offset buf
+    unfolding readAt againstReading containsOf
     read-is =
-        by-leaf (unfilled p buf) (λ m. readAt L p m offset buf) L p (I .private .sound) n
-        (λ (b : Bool) (r : Filled). resulting r ≡ readArray b cached (A n) offset buf) refl
+        by-leaf (refused p [] buf) (λ m. readAt L p m offset buf) L p (I .private .sound) n
+        (λ (b : Bool) (r : Outcome Answer). resultIn r ≡ readArray b cached (A n) offset buf) refl
         (λ leaf. rw (I .lengths n leaf) (read-leaf leaf cached (leb (offset + length buf) (nodeOf (p .nodes) n .size * L)) refl))
 
   -- a peek shows what a read of the page gives
 
   module _ (zero : List ℕ) (page : ℕ) where
-    abbrev page-read : Filled
+    abbrev page-read : Outcome Answer
     page-read = read L p n (page * L) (replicate L 0)
 
-    shown-by : {shown : List ℕ} {r : Filled} → Peeked L shown r → shown ≡ bytesBy (r .answer) (r .buf)
+    shown-by : {shown : List ℕ} {r : Outcome Answer} → Peeked L shown r → shown ≡ bytesBy (r .answer) (r .buf)
     shown-by (nothing why e s) = rw (e, s)
     shown-by (bytes e s l) = rw (e, s)
 

@@ -1,7 +1,7 @@
 -- Every call leaves a live object's size and policy. Assumes nothing.
 use mathlib.Core.Path.{_≡_, refl, sym, ap, _∙_, subst}
 use mathlib.Core.Bool.{Bool, true, false}
-use mathlib.Core.List.{List}
+use mathlib.Core.List.{List, []}
 use Prim.Native.Nat.{ℕ, _/_, _≤_}
 use lib.Dec.{leb}
 use lib.ListN.{getD}
@@ -14,11 +14,12 @@ use Rattle.node.specs.Node.{leafOf, originNode}
 use Rattle.tables.specs.Pool.{Pool}
 use Rattle.tables.specs.Tables.{nodeOf, freeNodeIn}
 use Rattle.sound.specs.Facts.{Leaf, Sound}
+use Rattle.outcome.specs.declared.answer.Answer.{Answer}
 use Rattle.outcome.specs.declared.answer.Refusal.the-variants.{InvalidArgs, BadPool, NoNode}
 use Rattle.sound.specs.Sound.{sound}
-use Rattle.pool.specs.Calls.{refused, leafAt, newLeaf, new}
-use Rattle.commit.specs.Noted.{Said, refusedOf}
-use Rattle.child.specs.Child.{born, againstChild, numbered, childAt, createChild}
+use Rattle.outcome.specs.Outcome.{Outcome, refused}
+use Rattle.pool.specs.Calls.{leafAt, newLeaf, new}
+use Rattle.child.specs.Child.{birthBy, born, againstChild, numberChild, childAt, createChild}
 use Rattle.births.proofs.Words.{node-away}
 use Rattle.births.proofs.First.{found-free}
 use Rattle.births.proofs.Cloned.{Cloned, leaf-live, live-old}
@@ -26,7 +27,7 @@ use Rattle.births.proofs.Written.{Granted}
 use Rattle.births.proofs.Fitting.{allows}
 use Rattle.births.proofs.Child.{cloned}
 use Rattle.births.proofs.Bear.{numbered-by}
-use Rattle.runs.proofs.Objects.{on-leaf, tested}
+use Rattle.runs.proofs.Objects.{on-leaf, by-tests}
 
 -- object o is in q what it was in p
 pub record Same (o : ℕ) (N N′ : List ℕ) : Type 0 where
@@ -59,7 +60,7 @@ module _ (L : ℕ) (p : Pool) (S : Sound L p) (o : ℕ) (live : Leaf (p .nodes) 
   new-kept size = by (sound L p) (leb size 64) (leb (getD (p .head) 0 0) 16777215)
     where
       by : (a b c : Bool)
-          → Kept (pick a (pick b (pick c (leafAt p size (freeNodeIn (p .nodes))) (refused NoNode p)) (refused InvalidArgs p)) (refused BadPool p) .pool)
+          → Kept (pick a (pick b (pick c (leafAt p size (freeNodeIn (p .nodes))) (refused p [] [] NoNode)) (refused p [] [] InvalidArgs)) (refused p [] [] BadPool) .pool)
       by true true true = leaf-kept size (freeNodeIn (p .nodes)) refl
       by true true false = kept
       by true false c = kept
@@ -77,18 +78,18 @@ module _ (L : ℕ) (p : Pool) (S : Sound L p) (o : ℕ) (live : Leaf (p .nodes) 
 
   module _ (list : List ℕ) (n : ℕ) where
     born-kept : (first pages : ℕ) → nodeOf (p .nodes) n .«pin_count» ≡ 0 → (c x : ℕ) → getD (p .head) 0 0 ≤ 16777215
-        → Granted (p .nodes) n x c first pages → Kept (born p list n c x first pages .pool)
+        → Granted (p .nodes) n x c first pages → Kept (born p list (birthBy n c x first pages) .pool)
     unfolding born
     born-kept first pages unpinned c x l g = cloned-kept (cloned L p n x c first pages g unpinned l S)
 
     pub child-kept : (offset len : ℕ) → Kept (createChild L p list n offset len .pool)
     unfolding childAt
     child-kept offset len =
-        on-leaf (refusedOf p list) (λ m. childAt L p list m offset len) L p S n (λ (s : Said). Kept (s .pool)) kept
+        on-leaf (refused p list []) (λ m. childAt L p list m offset len) L p S n (λ (s : Outcome Answer). Kept (s .pool)) kept
         (λ leaf.
-        tested (refusedOf p list) (numbered p list n (offset / L) (len / L)) (λ (s : Said). Kept (s .pool))
+        by-tests (refused p list []) (numberChild p list n (offset / L) (len / L)) (λ (s : Outcome Answer). Kept (s .pool))
         (againstChild L (nodeOf (p .nodes) n) offset len) (λ r e. kept)
         (λ e.
         let a = allows L (nodeOf (p .nodes) n) offset len e in
-        numbered-by L p list S n (offset / L) (len / L) leaf (a .fits) (λ (s : Said). Kept (s .pool)) (λ r. kept)
+        numbered-by L p list S n (offset / L) (len / L) leaf (a .fits) (λ (s : Outcome Answer). Kept (s .pool)) (λ r. kept)
         (born-kept (offset / L) (len / L) (a .unpinned))))

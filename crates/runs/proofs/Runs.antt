@@ -12,7 +12,7 @@ use Rattle.sound.specs.Sound.{lengthsOk}
 use Rattle.pool.specs.Calls.{freshPool, start}
 use Rattle.births.proofs.Arrays.{start-arrays}
 use Rattle.births.proofs.Fresh.{zero-node}
-use Rattle.runs.specs.Runs.{Command, effect, after, Event, eventOf, history}
+use Rattle.runs.specs.Runs.{Command, effect, resultIn, after, Event, eventOf, history}
 use Rattle.runs.specs.Arrays.{Arrays, nobody, arrayBy, arraysAfter, lives}
 use Rattle.runs.specs.Isolated.{paged, Isolated}
 use Rattle.runs.proofs.Steps.{step-isolated}
@@ -22,7 +22,7 @@ module _ (L : ℕ) where
   pub isolated-from : (A : Arrays) (p : Pool) → Isolated L A p → (run : List Command) → Isolated L (arraysAfter L A (history L p run)) (after L p run)
   unfolding after history arraysAfter
   isolated-from A p I [] = I
-  isolated-from A p I (c ∷ cs) = isolated-from (arrayBy L A c (effect L p c .result)) (effect L p c .pool) (step-isolated L A p I c) cs
+  isolated-from A p I (c ∷ cs) = isolated-from (arrayBy L A c (resultIn (effect L p c))) (effect L p c .pool) (step-isolated L A p I c) cs
 
   -- who lives after a run
   pub live-from : (A : Arrays) (p : Pool) → Isolated L A p → (run : List Command) (o : ℕ)
@@ -31,22 +31,22 @@ module _ (L : ℕ) where
   live-from A p I [] o = refl
   live-from A p I (c ∷ cs) o =
       let q = effect L p c .pool in
-      live-from (arrayBy L A c (effect L p c .result)) q (step-isolated L A p I c) cs o ∙ ap (λ b. lives o b (history L q cs)) (turn-live L A p I o c)
+      live-from (arrayBy L A c (resultIn (effect L p c))) q (step-isolated L A p I c) cs o ∙ ap (λ b. lives o b (history L q cs)) (turn-live L A p I o c)
 
   -- a run and what comes after it
 
   pub history-from : (p : Pool) (before : List Command) (c : Command) (rest : List Command)
       → history L p (before ++ c ∷ rest)
-      ≡ history L p before ++ eventOf c (effect L (after L p before) c .result) ∷ history L (effect L (after L p before) c .pool) rest
+      ≡ history L p before ++ eventOf c (resultIn (effect L (after L p before) c)) ∷ history L (effect L (after L p before) c .pool) rest
   unfolding after history
   history-from p [] c rest = refl
-  history-from p (b ∷ bs) c rest = ap (λ (es : List Event). eventOf b (effect L p b .result) ∷ es) (history-from (effect L p b .pool) bs c rest)
+  history-from p (b ∷ bs) c rest = ap (λ (es : List Event). eventOf b (resultIn (effect L p b)) ∷ es) (history-from (effect L p b .pool) bs c rest)
 
   pub arrays-from : (A : Arrays) (p : Pool) (before : List Command) (c : Command)
-      → arraysAfter L A (history L p (before ++ c ∷ [])) ≡ arrayBy L (arraysAfter L A (history L p before)) c (effect L (after L p before) c .result)
+      → arraysAfter L A (history L p (before ++ c ∷ [])) ≡ arrayBy L (arraysAfter L A (history L p before)) c (resultIn (effect L (after L p before) c))
   unfolding after history arraysAfter
   arrays-from A p [] c = refl
-  arrays-from A p (b ∷ bs) c = arrays-from (arrayBy L A b (effect L p b .result)) (effect L p b .pool) bs c
+  arrays-from A p (b ∷ bs) c = arrays-from (arrayBy L A b (resultIn (effect L p b))) (effect L p b .pool) bs c
 
   -- a fresh pool has no object
 

@@ -1,6 +1,6 @@
 -- One call of a run, whichever it is, keeps the invariant. Assumes nothing.
 use mathlib.Core.Path.{_≡_, refl, sym, ap, _∙_}
-use mathlib.Core.List.{List}
+use mathlib.Core.List.{List, []}
 use mathlib.Core.Logic.{_⊎_, inl, inr}
 use mathlib.Core.Bool.{_&&_}
 use Prim.Native.Nat.{ℕ, _+_, _-_, _*_, _/_, _≤_, _<_}
@@ -14,15 +14,15 @@ use Rattle.logic.proofs.Means.{equal, split}
 use Rattle.tables.specs.Pool.{Pool}
 use Rattle.tables.specs.Tables.{nodeOf}
 use Rattle.sound.specs.Facts.{Leaf}
-use Rattle.pool.specs.declared.answer.Answer.{Answer}
-use Rattle.pool.specs.declared.answer.Answer.the-variants.{Done, Refused}
-use Rattle.pool.specs.declared.answer.Refusal.{Refusal}
+use Rattle.outcome.specs.declared.answer.Answer.{Answer}
+use Rattle.outcome.specs.declared.answer.Answer.the-variants.{Done, Refused}
+use Rattle.outcome.specs.declared.answer.Refusal.{Refusal}
+use Rattle.outcome.specs.Outcome.{Outcome, refused}
 use Rattle.pool.specs.Calls.{new}
-use Rattle.commit.specs.Noted.{Said, refusedOf}
-use Rattle.child.specs.Child.{againstChild, numbered, childAt, createChild}
+use Rattle.child.specs.Child.{againstChild, numberChild, childAt, createChild}
 use Rattle.ranges.specs.Ranges.{read, write}
 use Rattle.isolation.specs.Private.{Private}
-use Rattle.isolation.proofs.Bytes.{frame-room}
+use Rattle.lookups.proofs.Bytes.{frame-room}
 use Rattle.births.specs.Births.{Gave, BlankBorn, CloneBorn}
 use Rattle.births.specs.Arrays.{blankArray, cloneArray}
 use Rattle.births.proofs.Arrays.{new-arrays, child-arrays}
@@ -31,12 +31,12 @@ use Rattle.births.proofs.Fitting.{Allows, allows}
 use Rattle.arrays.specs.Arrays.{writeArray}
 use Rattle.arrays.proofs.Bytes.{write-none, write-other}
 use Rattle.arrays.proofs.Calls.{read-keeps, write-keeps}
-use Rattle.runs.specs.Runs.{Command, asideEffect, effect}
+use Rattle.runs.specs.Runs.{Command, asideEffect, effect, resultIn}
 use Rattle.runs.specs.Runs.Command.{New, Child, Read, Write, Also}
 use Rattle.runs.specs.Arrays.{Arrays, withArray, overwritten, newBy, childBy, arrayBy}
 use Rattle.runs.specs.Isolated.{paged, Isolated}
 use Rattle.runs.proofs.Lists.{zeros-at, overwritten-none, overwritten-length, overwritten-at, part-length, part-at}
-use Rattle.runs.proofs.Objects.{on-leaf, tested}
+use Rattle.runs.proofs.Objects.{on-leaf, by-tests}
 use Rattle.runs.proofs.Ranges.{read-nodes, Lies, write-nodes, write-done}
 use Rattle.runs.proofs.Asides.{Still, aside-still}
 
@@ -147,10 +147,10 @@ module _ (L : ℕ) (A : Arrays) (p : Pool) (I : Isolated L A p) where
     pub child-fits : (list : List ℕ) (c : ℕ) → createChild L p list n offset len .answer ≡ Done c → Fits
     unfolding childAt
     child-fits list c =
-        on-leaf (refusedOf p list) (λ m. childAt L p list m offset len) L p (I .private .sound) n (λ (s : Said). s .answer ≡ Done c → Fits)
+        on-leaf (refused p list []) (λ m. childAt L p list m offset len) L p (I .private .sound) n (λ (s : Outcome Answer). s .answer ≡ Done c → Fits)
         (λ e. no e)
         (λ leaf.
-        tested (refusedOf p list) (numbered p list n (offset / L) (len / L)) (λ (s : Said). s .answer ≡ Done c → Fits)
+        by-tests (refused p list []) (numberChild p list n (offset / L) (len / L)) (λ (s : Outcome Answer). s .answer ≡ Done c → Fits)
         (againstChild L (nodeOf (p .nodes) n) offset len)
         (λ r e h. no h) (λ e h. record { leaf = leaf; allows = allows L (nodeOf (p .nodes) n) offset len e }))
       where
@@ -184,13 +184,13 @@ module _ (L : ℕ) (A : Arrays) (p : Pool) (I : Isolated L A p) where
         let m = l .inside in
         overwritten-length (A n) offset bytes done (omega arith) (l .among)
 
-    pub write-isolated : let r = write L p list n offset bytes in Isolated L (withArray A n (overwritten (A n) offset bytes (r .done))) (r .said .pool)
+    pub write-isolated : let r = write L p list n offset bytes in Isolated L (withArray A n (overwritten (A n) offset bytes (r .done))) (r .pool)
     write-isolated =
         let r = write L p list n offset bytes in
         let d = write-done L B p (I .private) list n offset bytes in
         let a = overwritten (A n) offset bytes (r .done) in
         record {
-          private = private-inside L (writeArray L B n offset bytes (r .done)) (paged L (withArray A n a)) (r .said .pool)
+          private = private-inside L (writeArray L B n offset bytes (r .done)) (paged L (withArray A n a)) (r .pool)
               (λ m i k l h. write-at (r .done) d m i k) (write-keeps L B p (I .private) list n offset bytes);
           lengths = rw (write-nodes L B p (I .private) list n offset bytes)
               (λ m leaf.
@@ -201,7 +201,7 @@ module _ (L : ℕ) (A : Arrays) (p : Pool) (I : Isolated L A p) where
 
   -- each of them
 
-  pub step-isolated : (c : Command) → Isolated L (arrayBy L A c (effect L p c .result)) (effect L p c .pool)
+  pub step-isolated : (c : Command) → Isolated L (arrayBy L A c (resultIn (effect L p c))) (effect L p c .pool)
   unfolding effect
   step-isolated (New pages) = blank-isolated pages (new L p pages .answer) (new L p pages .pool) (new-arrays L B p (I .private) pages)
   step-isolated (Child list n offset len) =

@@ -5,17 +5,16 @@ use mathlib.Core.List.{List}
 use Prim.Native.Nat.{ℕ}
 use borrow.Author.Tests.{eq-eqb}
 use Rattle.logic.specs.Pick.{pick}
-use Rattle.node.specs.Node.{leafOf}
+use Rattle.node.specs.Node.{leafOf, cachedOf}
 use Rattle.tables.specs.Pool.{Pool}
 use Rattle.tables.specs.Tables.{nodeOf}
 use Rattle.sound.specs.Facts.{Leaf, Lengths}
 use Rattle.sound.specs.Sound.{lengthsOk, sound}
 use Rattle.soundness.proofs.Soundness.{lengths-mean, facts-sound}
 use Rattle.pool.specs.Calls.{start}
-use Rattle.ranges.specs.Ranges.{cachedOf}
 use Rattle.births.proofs.Calls.{start-sound, new-sound, len-sound, forecast-sound, append-sound, remove-sound, child-sound}
 use Rattle.arrays.proofs.Sound.{read-sound, write-sound, commit-sound, page-sound}
-use Rattle.runs.specs.Runs.{Aside, Command, effect, asideEffect, history, poolAfter, historyOf}
+use Rattle.runs.specs.Runs.{Aside, Command, effect, asideEffect, resultIn, history, poolAfter, historyOf}
 use Rattle.runs.specs.Runs.Aside.{Commit, CommitPage, Len, Peek, Forecast, Append, Remove}
 use Rattle.runs.specs.Runs.Command.{New, Child, Read, Write, Also}
 use Rattle.runs.specs.Arrays.{nobody, arrayBy, arraysOf, lives, readArray}
@@ -72,7 +71,7 @@ module _ (L : ℕ) (p : Pool) (lent : Lengths L p) (run : List Command) where
   run-live n =
       live-from L nobody (start L p .pool) started run n ∙ ap (λ (b : Bool). lives n b (historyOf L p run)) (fresh-empty L p lengths n)
 
-  run-cached : (n : ℕ) → cachedOf (poolAfter L p run .nodes) n ≡ true
+  run-cached : (n : ℕ) → cachedOf (nodeOf (poolAfter L p run .nodes) n) ≡ true
   unfolding cachedOf
   run-cached n =
       eq-eqb (nodeOf (poolAfter L p run .nodes) n .«cache_policy») 0 (cached-from L nobody (start L p .pool) started (fresh-cached L p lengths) run n)
@@ -89,7 +88,7 @@ fresh-run L p lent run =
       cached = run-cached L p lent run;
       reads = λ n offset buf.
           run-promises L p lent run .reads n offset buf
-          ∙ ap (λ (b : Bool). readArray b (cachedOf (poolAfter L p run .nodes) n) (arraysOf L p run n) offset buf) (run-live L p lent run n)
+          ∙ ap (λ (b : Bool). readArray b (cachedOf (nodeOf (poolAfter L p run .nodes) n)) (arraysOf L p run n) offset buf) (run-live L p lent run n)
           ∙ ap (λ (b : Bool). readArray (lives n false (historyOf L p run)) b (arraysOf L p run n) offset buf) (run-cached L p lent run n);
     }
 
@@ -99,7 +98,7 @@ pub two-runs : TwoRuns
 two-runs L A B p q I J o u here there same equal one two alike =
     let f = follows L A p I o here one in
     let g = follows L B q J u there two in
-    let b = cachedOf (p .nodes) o in
+    let b = cachedOf (nodeOf (p .nodes) o) in
     let ds = deeds u (history L q two) in
     record {
       reads = f .reads ∙ ap (replay b (A o)) alike ∙ ap (λ (a : List ℕ). replay b a ds) equal ∙ ap (λ (x : Bool). replay x (B u) ds) same ∙ sym
@@ -120,7 +119,7 @@ two-runs-from-birth L p lent past birth o made one two alike =
     let A = arraysOf L p past in
     let I = run-isolated L p lent past in
     let q = effect L r birth .pool in
-    let C = arrayBy L A birth (effect L r birth .result) in
+    let C = arrayBy L A birth (resultIn (effect L r birth)) in
     let leaf : Leaf (q .nodes) o = turn-live L A r I o birth ∙ ap (λ (b : Bool). pick b true (leafOf (nodeOf (r .nodes) o))) made in
     let J = step-isolated L A r I birth in
     two-runs L C C q q J J o o leaf leaf refl refl one two alike .reads

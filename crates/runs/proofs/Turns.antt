@@ -12,16 +12,16 @@ use Rattle.node.specs.Node.{leafOf}
 use Rattle.tables.specs.Pool.{Pool}
 use Rattle.tables.specs.Tables.{nodeOf}
 use Rattle.sound.specs.Facts.{Leaf}
-use Rattle.pool.specs.declared.answer.Answer.{Answer}
-use Rattle.pool.specs.declared.answer.Answer.the-variants.{Done, Refused}
-use Rattle.pool.specs.declared.answer.Refusal.the-variants.{NoMemory}
+use Rattle.outcome.specs.declared.answer.Answer.{Answer}
+use Rattle.outcome.specs.declared.answer.Answer.the-variants.{Done, Refused}
+use Rattle.outcome.specs.declared.answer.Refusal.the-variants.{NoMemory}
 use Rattle.pool.specs.Calls.{new}
 use Rattle.child.specs.Child.{createChild}
 use Rattle.ranges.specs.Ranges.{read, write}
 use Rattle.births.specs.Births.{Gave, Newborn, BlankBorn, CloneBorn}
 use Rattle.births.proofs.Arrays.{new-arrays, child-arrays}
 use Rattle.births.proofs.Cloned.{leaf-live}
-use Rattle.runs.specs.Runs.{Command, effect, asideEffect}
+use Rattle.runs.specs.Runs.{Command, effect, asideEffect, resultIn}
 use Rattle.runs.specs.Runs.Command.{New, Child, Read, Write, Also}
 use Rattle.runs.specs.Arrays.{Arrays, overwritten, newBy, childBy, arrayBy, named, makes}
 use Rattle.runs.specs.Isolated.{paged, Isolated}
@@ -38,7 +38,7 @@ module _ (L : ℕ) (A : Arrays) (p : Pool) (I : Isolated L A p) where
 
   -- how it is answered
 
-  pub turn-answers : (c : Command) → Answers (Spent (TooFew L p c) (effect L p c .pool)) (effect L p c .result .answer)
+  pub turn-answers : (c : Command) → Answers (Spent (TooFew L p c) (effect L p c .pool)) (effect L p c .answer)
   unfolding effect
   turn-answers (New pages) = new-answers _ L p (I .private .sound) pages
   turn-answers (Child list n offset len) = child-answers _ L p list n offset len (I .private .sound)
@@ -46,7 +46,7 @@ module _ (L : ℕ) (A : Arrays) (p : Pool) (I : Isolated L A p) where
   turn-answers (Write list n offset bytes) = write-answers L B p (I .private) list n offset bytes
   turn-answers (Also c) = aside-answers L B p (I .private) c
 
-  pub turn-lacks : (c : Command) → TooFew L p c → effect L p c .result .answer ≡ Refused NoMemory
+  pub turn-lacks : (c : Command) → TooFew L p c → effect L p c .answer ≡ Refused NoMemory
   unfolding effect
   turn-lacks (New pages) l = absurd l
   turn-lacks (Child list n offset len) l = absurd l
@@ -74,7 +74,7 @@ module _ (L : ℕ) (A : Arrays) (p : Pool) (I : Isolated L A p) where
   clone-live o n first pages (Done i) q g = born-live o g
   clone-live o n first pages (Refused r) q g = stay-live o q (ap (λ (x : Pool). x .nodes) g)
 
-  pub turn-live : (o : ℕ) (c : Command) → Lives o (makes o c (effect L p c .result .answer)) (effect L p c .pool)
+  pub turn-live : (o : ℕ) (c : Command) → Lives o (makes o c (effect L p c .answer)) (effect L p c .pool)
   unfolding effect
   turn-live o (New pages) = blank-live o pages (new L p pages .answer) (new L p pages .pool) (new-arrays L B p (I .private) pages)
   turn-live o (Child list n offset len) =
@@ -82,7 +82,7 @@ module _ (L : ℕ) (A : Arrays) (p : Pool) (I : Isolated L A p) where
       clone-live o n (offset / L) (len / L) (r .answer) (r .pool) (child-arrays L B p (I .private) list n offset len)
   turn-live o (Read n offset buf) = stay-live o (read L p n offset buf .pool) (read-nodes L B p (I .private) n offset buf)
   turn-live o (Write list n offset bytes) =
-      stay-live o (write L p list n offset bytes .said .pool) (write-nodes L B p (I .private) list n offset bytes)
+      stay-live o (write L p list n offset bytes .pool) (write-nodes L B p (I .private) list n offset bytes)
   turn-live o (Also c) = stay-live o (asideEffect L p c .pool) (aside-still L B p (I .private) c .nodes)
 
   -- a live object: its record stays, and its array changes by its own writes alone
@@ -109,7 +109,7 @@ module _ (L : ℕ) (A : Arrays) (p : Pool) (I : Isolated L A p) where
     clone-keeps n offset len (Refused r) q g = refl
 
     pub turn-keeps : (c : Command) → ((list : List ℕ) (offset : ℕ) (bytes : List ℕ) → c ≡ Write list o offset bytes → ⊥)
-        → arrayBy L A c (effect L p c .result) o ≡ A o
+        → arrayBy L A c (resultIn (effect L p c)) o ≡ A o
     unfolding effect
     turn-keeps (New pages) not-own = blank-keeps pages (new L p pages .answer) (new L p pages .pool) (new-arrays L B p (I .private) pages)
     turn-keeps (Child list n offset len) not-own =

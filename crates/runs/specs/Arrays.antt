@@ -6,9 +6,9 @@ use Prim.Native.Nat.{ℕ, _+_, _*_}
 use lib.Dec.{eqb, leb}
 use lib.ListN.{length, take, drop, replicate}
 use Rattle.logic.specs.Pick.{pick}
-use Rattle.pool.specs.declared.answer.Answer.{Answer}
-use Rattle.pool.specs.declared.answer.Answer.the-variants.{Done, Refused}
-use Rattle.pool.specs.declared.answer.Refusal.the-variants.{OutOfRange, BadState, NoObject}
+use Rattle.outcome.specs.declared.answer.Answer.{Answer}
+use Rattle.outcome.specs.declared.answer.Answer.the-variants.{Done, Refused}
+use Rattle.outcome.specs.declared.answer.Refusal.the-variants.{OutOfRange, BadState, NoObject}
 use Rattle.tables.specs.Pool.{Pool}
 use Rattle.runs.specs.Runs.{Command, Result, resultOf, Event, historyOf}
 use Rattle.runs.specs.Runs.Command.{New, Child, Read, Write, Also}

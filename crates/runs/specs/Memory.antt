@@ -6,10 +6,10 @@ use lib.ListN.{length}
 use Rattle.tables.specs.Pool.{Pool}
 use Rattle.frames.specs.Frames.{freeCount}
 use Rattle.sound.specs.Facts.{Leaf}
-use Rattle.pool.specs.declared.answer.Against.the-variants.{Nothing as Fine}
+use Rattle.outcome.specs.declared.answer.Against.the-variants.{Nothing as Fine}
 use Rattle.commit.specs.Commit.{pageRefusal}
 use Rattle.ranges.specs.Ranges.{againstWriting, againstCommitting}
-use Rattle.isolation.specs.Need.{need}
+use Rattle.lookups.specs.Need.{need}
 use Rattle.arrays.specs.Arrays.{touched, needs}
 use Rattle.runs.specs.Runs.{Aside, Command}
 use Rattle.runs.specs.Runs.Aside.{Commit, CommitPage, Len, Peek, Forecast, Append, Remove}

@@ -4,7 +4,7 @@ use Prim.Native.Nat.{ℕ}
 use lib.Dec.{eqb}
 use lib.ListN.{length}
 use Rattle.logic.specs.Pick.{pick}
-use Rattle.pool.specs.declared.answer.Answer.{Answer}
+use Rattle.outcome.specs.declared.answer.Answer.{Answer}
 use Rattle.runs.specs.Runs.{Command, Result, resultOf, Event}
 use Rattle.runs.specs.Runs.Command.{New, Child, Read, Write, Also}
 use Rattle.runs.specs.Arrays.{bytesIn}

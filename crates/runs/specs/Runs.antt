@@ -3,8 +3,9 @@ use mathlib.Core.Bool.{Bool}
 use mathlib.Core.List.{List, [], _∷_}
 use Prim.Native.Nat.{ℕ}
 use Rattle.tables.specs.Pool.{Pool}
-use Rattle.pool.specs.declared.answer.Answer.{Answer}
-use Rattle.pool.specs.declared.answer.Answer.the-variants.{Done}
+use Rattle.outcome.specs.declared.answer.Answer.{Answer}
+use Rattle.outcome.specs.declared.answer.Answer.the-variants.{Done}
+use Rattle.outcome.specs.Outcome.{Outcome, outcome, replyOf}
 use Rattle.pool.specs.Calls.{start, new, len}
 use Rattle.mapped.specs.Mapped.{appendMapping, removeMapping}
 use Rattle.forecast.specs.Forecast.{forecast}
@@ -31,6 +32,23 @@ pub data Command : Type 0 where
   Write : (list : List ℕ) (object offset : ℕ) (bytes : List ℕ) → Command
   Also : Aside → Command
 
+-- by the rules of the calls themselves; a peek is a function to bytes, which are none where it shows nothing
+unfoldable pub asideEffect : ℕ → Pool → Aside → Outcome Answer
+asideEffect L p (Commit list n offset bytes) = commit L p list n offset bytes
+asideEffect L p (CommitPage list n page writing) = commitPage L p list n page writing
+asideEffect L p (Len n) = len L p n
+asideEffect L p (Peek zero n page) = outcome (replyOf (Done 0)) p [] (peek L p zero n page)
+asideEffect L p (Forecast n offset bytes) = forecast L p n offset bytes
+asideEffect L p (Append n first pages) = appendMapping L p n first pages
+asideEffect L p (Remove n mapping) = removeMapping L p n mapping
+
+unfoldable pub effect : ℕ → Pool → Command → Outcome Answer
+effect L p (New pages) = new L p pages
+effect L p (Child list n offset bytes) = createChild L p list n offset bytes
+effect L p (Read n offset buf) = read L p n offset buf
+effect L p (Write list n offset bytes) = write L p list n offset bytes
+effect L p (Also c) = asideEffect L p c
+
 -- what it gave: the answer, the bytes that a write calls done, and the buffer that a read leaves or the bytes that a peek shows
 pub record Result : Type 0 where
   pub answer : Answer
@@ -40,30 +58,8 @@ pub record Result : Type 0 where
 abbrev pub resultOf : Answer → ℕ → List ℕ → Result
 resultOf a d b = record { answer = a; done = d; buf = b }
 
--- with the pool that it left
-pub record Effect : Type 0 where
-  pub result : Result
-  pub pool : Pool
-
-abbrev pub effectOf : Answer → ℕ → List ℕ → Pool → Effect
-effectOf a d b p = record { result = resultOf a d b; pool = p }
-
--- by the rules of the calls themselves; a peek is a function to bytes, which are none where it shows nothing
-unfoldable pub asideEffect : ℕ → Pool → Aside → Effect
-asideEffect L p (Commit list n offset bytes) = let r = commit L p list n offset bytes in effectOf (r .said .answer) 0 [] (r .said .pool)
-asideEffect L p (CommitPage list n page writing) = let r = commitPage L p list n page writing in effectOf (r .answer) 0 [] (r .pool)
-asideEffect L p (Len n) = let r = len L p n in effectOf (r .answer) 0 [] (r .pool)
-asideEffect L p (Peek zero n page) = effectOf (Done 0) 0 (peek L p zero n page) p
-asideEffect L p (Forecast n offset bytes) = let r = forecast L p n offset bytes in effectOf (r .answer) 0 [] (r .pool)
-asideEffect L p (Append n first pages) = let r = appendMapping L p n first pages in effectOf (r .answer) 0 [] (r .pool)
-asideEffect L p (Remove n mapping) = let r = removeMapping L p n mapping in effectOf (r .answer) 0 [] (r .pool)
-
-unfoldable pub effect : ℕ → Pool → Command → Effect
-effect L p (New pages) = let r = new L p pages in effectOf (r .answer) 0 [] (r .pool)
-effect L p (Child list n offset bytes) = let r = createChild L p list n offset bytes in effectOf (r .answer) 0 [] (r .pool)
-effect L p (Read n offset buf) = let r = read L p n offset buf in effectOf (r .answer) 0 (r .buf) (r .pool)
-effect L p (Write list n offset bytes) = let r = write L p list n offset bytes in effectOf (r .said .answer) (r .done) [] (r .said .pool)
-effect L p (Also c) = asideEffect L p c
+abbrev pub resultIn : Outcome Answer → Result
+resultIn r = resultOf (r .answer) (r .done) (r .buf)
 
 -- the pool after a run
 unfoldable pub after : ℕ → Pool → List Command → Pool
@@ -80,7 +76,7 @@ eventOf c r = record { command = c; result = r }
 
 unfoldable pub history : ℕ → Pool → List Command → List Event
 history L p [] = []
-history L p (c ∷ cs) = eventOf c (effect L p c .result) ∷ history L (effect L p c .pool) cs
+history L p (c ∷ cs) = eventOf c (resultIn (effect L p c)) ∷ history L (effect L p c .pool) cs
 
 -- a run on a fresh pool, which start made of the tables and the memory lent
 abbrev pub poolAfter : ℕ → Pool → List Command → Pool

@@ -5,18 +5,17 @@ use mathlib.Core.List.{List, [], _∷_, _++_}
 use Prim.Native.Nat.{ℕ, _*_}
 use lib.ListN.{length, replicate}
 use Rattle.logic.specs.Pick.{pick}
-use Rattle.node.specs.Node.{leafOf}
+use Rattle.node.specs.Node.{leafOf, cachedOf}
 use Rattle.tables.specs.Pool.{Pool}
 use Rattle.tables.specs.Tables.{nodeOf}
 use Rattle.frames.specs.Frames.{freeCount}
 use Rattle.sound.specs.Facts.{Leaf, Lengths}
 use Rattle.sound.specs.Sound as S
-use Rattle.pool.specs.declared.answer.Answer.the-variants.{Done, Refused}
-use Rattle.pool.specs.declared.answer.Refusal.the-variants.{NoMemory, BadPool, NoObject, Stopped}
+use Rattle.outcome.specs.declared.answer.Answer.the-variants.{Done, Refused}
+use Rattle.outcome.specs.declared.answer.Refusal.the-variants.{NoMemory, BadPool, NoObject, Stopped}
 use Rattle.pool.specs.Calls.{start}
-use Rattle.ranges.specs.Ranges.{cachedOf}
 use Rattle.peek.specs.Peek.{zeroPageOf}
-use Rattle.runs.specs.Runs.{Command, effect, after, eventOf, history, poolAfter, historyOf}
+use Rattle.runs.specs.Runs.{Command, effect, resultIn, after, eventOf, history, poolAfter, historyOf}
 use Rattle.runs.specs.Runs.Aside.{Len, Peek}
 use Rattle.runs.specs.Runs.Command.{Read, Write, Also}
 use Rattle.runs.specs.Arrays.{Arrays, arrayBy, arraysAfter, arraysOf, makes, lives, readArray, bytesIn}
@@ -32,24 +31,24 @@ pub record Promises (L : ℕ) (A : Arrays) (p : Pool) : Type 0 where
   -- an object's size, in bytes, is its array's length
   pub sizes : (n : ℕ) → Leaf (p .nodes) n → nodeOf (p .nodes) n .size * L ≡ length (A n)
   -- len answers it
-  pub lens : (n : ℕ) → effect L p (Also (Len n)) .result .answer ≡ pick (leafOf (nodeOf (p .nodes) n)) (Done (length (A n))) (Refused NoObject)
+  pub lens : (n : ℕ) → effect L p (Also (Len n)) .answer ≡ pick (leafOf (nodeOf (p .nodes) n)) (Done (length (A n))) (Refused NoObject)
   -- a read of any object, at any offset and into any buffer, is what `readArray` says of the array
   pub reads : (n offset : ℕ) (buf : List ℕ)
-      → effect L p (Read n offset buf) .result ≡ readArray (leafOf (nodeOf (p .nodes) n)) (cachedOf (p .nodes) n) (A n) offset buf
+      → resultIn (effect L p (Read n offset buf)) ≡ readArray (leafOf (nodeOf (p .nodes) n)) (cachedOf (nodeOf (p .nodes) n)) (A n) offset buf
   -- lent a page of zeros, a peek shows the bytes that a read of the page gives, and nothing where that is refused
-  pub peeks : (zero : List ℕ) (n page : ℕ) → effect L p (Also (Peek zero n page)) .result .buf
-      ≡ pick (zeroPageOf L zero) (bytesIn (readArray (leafOf (nodeOf (p .nodes) n)) (cachedOf (p .nodes) n) (A n) (page * L) (replicate L 0))) []
+  pub peeks : (zero : List ℕ) (n page : ℕ) → effect L p (Also (Peek zero n page)) .buf
+      ≡ pick (zeroPageOf L zero) (bytesIn (readArray (leafOf (nodeOf (p .nodes) n)) (cachedOf (nodeOf (p .nodes) n)) (A n) (page * L) (replicate L 0))) []
   -- a write that is accepted has done all its bytes
-  pub writes : (list : List ℕ) (n offset : ℕ) (bytes : List ℕ) (v : ℕ) → let r = effect L p (Write list n offset bytes) .result in
+  pub writes : (list : List ℕ) (n offset : ℕ) (bytes : List ℕ) (v : ℕ) → let r = effect L p (Write list n offset bytes) in
       r .answer ≡ Done v → (v ≡ length bytes) × (r .done ≡ length bytes)
   -- a live object's array is changed by its own writes alone
   pub own-writes : (o : ℕ) → Leaf (p .nodes) o → (c : Command) → ((list : List ℕ) (offset : ℕ) (bytes : List ℕ) → c ≡ Write list o offset bytes → ⊥)
-      → arrayBy L A c (effect L p c .result) o ≡ A o
-  pub never-bad-pool : (c : Command) → effect L p c .result .answer ≡ Refused BadPool → ⊥
-  pub never-stopped : (c : Command) → effect L p c .result .answer ≡ Refused Stopped → ⊥
+      → arrayBy L A c (resultIn (effect L p c)) o ≡ A o
+  pub never-bad-pool : (c : Command) → effect L p c .answer ≡ Refused BadPool → ⊥
+  pub never-stopped : (c : Command) → effect L p c .answer ≡ Refused Stopped → ⊥
   -- NO_MEMORY exactly if the call's pages need more frames than are free; and then it leaves none free
-  pub no-memory : (c : Command) → effect L p c .result .answer ≡ Refused NoMemory → TooFew L p c × (freeCount (effect L p c .pool .used) ≡ 0)
-  pub too-few : (c : Command) → TooFew L p c → effect L p c .result .answer ≡ Refused NoMemory
+  pub no-memory : (c : Command) → effect L p c .answer ≡ Refused NoMemory → TooFew L p c × (freeCount (effect L p c .pool .used) ≡ 0)
+  pub too-few : (c : Command) → TooFew L p c → effect L p c .answer ≡ Refused NoMemory
 
 -- 2. Any pool that has the invariant, whatever its past
 
@@ -64,9 +63,9 @@ AnyRun = (L : ℕ) (A : Arrays) (p : Pool) → Isolated L A p → (run : List Co
 -- so that every call of every run is met: one that comes after a part of the run finds the pool and the arrays of that part
 pub record Goes (L : ℕ) (A : Arrays) (p : Pool) (before : List Command) (c : Command) (rest : List Command) : Type 0 where
   pub events : history L p (before ++ c ∷ rest)
-      ≡ history L p before ++ eventOf c (effect L (after L p before) c .result) ∷ history L (effect L (after L p before) c .pool) rest
+      ≡ history L p before ++ eventOf c (resultIn (effect L (after L p before) c)) ∷ history L (effect L (after L p before) c .pool) rest
   pub arrays : arraysAfter L A (history L p (before ++ c ∷ []))
-      ≡ arrayBy L (arraysAfter L A (history L p before)) c (effect L (after L p before) c .result)
+      ≡ arrayBy L (arraysAfter L A (history L p before)) c (resultIn (effect L (after L p before) c))
 
 abbrev pub EveryCall : Type 0
 EveryCall = (L : ℕ) (A : Arrays) (p : Pool) (before : List Command) (c : Command) (rest : List Command) → Goes L A p before c rest
@@ -79,10 +78,10 @@ pub record Fresh (L : ℕ) (p : Pool) (run : List Command) : Type 0 where
   pub promises : Promises L (arraysOf L p run) (poolAfter L p run)
   -- the live objects are those that the history made, and all are Cached
   pub live : (n : ℕ) → leafOf (nodeOf (poolAfter L p run .nodes) n) ≡ lives n false (historyOf L p run)
-  pub cached : (n : ℕ) → cachedOf (poolAfter L p run .nodes) n ≡ true
+  pub cached : (n : ℕ) → cachedOf (nodeOf (poolAfter L p run .nodes) n) ≡ true
   -- so what a read gives follows from the history alone
   pub reads : (n offset : ℕ) (buf : List ℕ)
-      → effect L (poolAfter L p run) (Read n offset buf) .result ≡ readArray (lives n false (historyOf L p run)) true (arraysOf L p run n) offset buf
+      → resultIn (effect L (poolAfter L p run) (Read n offset buf)) ≡ readArray (lives n false (historyOf L p run)) true (arraysOf L p run n) offset buf
 
 abbrev pub FreshRun : Type 0
 FreshRun = (L : ℕ) (p : Pool) → Lengths L p → (run : List Command) → Fresh L p run
@@ -99,7 +98,7 @@ pub record Alike (L : ℕ) (A B : Arrays) (p q : Pool) (o u : ℕ) (one two : Li
 -- from any two pools that have the invariant
 abbrev pub TwoRuns : Type 0
 TwoRuns = (L : ℕ) (A B : Arrays) (p q : Pool) → Isolated L A p → Isolated L B q
-    → (o u : ℕ) → Leaf (p .nodes) o → Leaf (q .nodes) u → cachedOf (p .nodes) o ≡ cachedOf (q .nodes) u → A o ≡ B u
+    → (o u : ℕ) → Leaf (p .nodes) o → Leaf (q .nodes) u → cachedOf (nodeOf (p .nodes) o) ≡ cachedOf (nodeOf (q .nodes) u) → A o ≡ B u
     → (one two : List Command) → deeds o (history L p one) ≡ deeds u (history L q two) → Alike L A B p q o u one two
 
 -- from two fresh pools, after any two pasts that made the objects and gave them equal arrays
@@ -112,7 +111,7 @@ TwoFreshRuns = (L : ℕ) (p q : Pool) → Lengths L p → Lengths L q → (past 
 -- from one pool, alike up to and with the call that makes the object
 abbrev pub TwoRunsFromBirth : Type 0
 TwoRunsFromBirth = (L : ℕ) (p : Pool) → Lengths L p → (past : List Command) (birth : Command) (o : ℕ)
-    → makes o birth (effect L (poolAfter L p past) birth .result .answer) ≡ true → let q = effect L (poolAfter L p past) birth .pool in
+    → makes o birth (effect L (poolAfter L p past) birth .answer) ≡ true → let q = effect L (poolAfter L p past) birth .pool in
     (one two : List Command) → deeds o (history L q one) ≡ deeds o (history L q two) → readsOf o (history L q one) ≡ readsOf o (history L q two)
 
 -- 5. Every call that there is keeps every sound pool sound, whatever the pool's past and the call's arguments and answer
