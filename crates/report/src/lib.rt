@@ -12,7 +12,7 @@ pub fn seed() -> u32 {
 
 fn entries(h: u32, pages: &[u32], node: u32) -> u32 {
     let mut h = h;
-    let mut i: u32 = 0;
+    let mut i: u64 = 0;
     while i < 64 {
         h = mix(h, tables::entry_at(pages, node, i));
         i += 1;
