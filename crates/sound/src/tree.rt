@@ -24,13 +24,12 @@ fn is_blank(n: Node) -> bool
         & (n.pin_count == 0)
 }
 
-// The numbers of one record.
+// The numbers of one record, of a node that is there.
 fn numbers_ok(n: Node, next: u32) -> bool
+    requires { ⌜ (n .kind ≡ 0 → ⊥) ⌝ }
     ensures { λ r. ⌜ r ≡ numbersOk n next ⌝ }
 {
-    let live = n.kind != Node::FREE;
     (n.kind <= 3)
-        & (live | is_blank(n))
         & (n.parent_offset <= n.parent_limit)
         & (n.parent_limit as u64 <= n.parent_offset as u64 + n.size as u64)
         & (n.size <= 64)

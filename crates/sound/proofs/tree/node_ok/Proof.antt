@@ -18,6 +18,6 @@ node-ok-spec =
     (λ c κs. search needs)
     (λ c κs. search needs)
     returns
-    (λ c κs. search needs)
+    (λ c κs. c .if1 .left)
     (λ c κs. search needs)
     returns-2)
