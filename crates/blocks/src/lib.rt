@@ -1,16 +1,19 @@
 // A byte range cut at page boundaries (block_range.rs; page_aligned and pages of vm/mod.rs). The block size is the page's.
+
+#![tactic(auto)]
+
 ghost use Rattle.std.specs.Prelude.{◌≡◌, ◌+◌, ◌-◌, ◌%◌, ◌≤◌, ◌<◌};
 ghost use Rattle.blocks.specs.Blocks.{aligned_of, pages_of, block_end, next_of, count_of};
 
 pub const PAGE_SIZE: u64 = 4096;
 
-#[derive(Drop)]
+#[derive(Clone, Copy)]
 pub struct BlockIter {
     pub begin: u64,
     pub end: u64,
 }
 
-#[derive(Drop)]
+#[derive(Clone, Copy)]
 pub struct BlockRange {
     pub block: u64,
     pub begin: u64,
@@ -18,7 +21,7 @@ pub struct BlockRange {
 }
 
 // The next block with the rest of the range, or the end.
-#[derive(Drop)]
+#[derive(Clone, Copy)]
 pub enum Next {
     Block(BlockRange, BlockIter),
     Done,

@@ -1,4 +1,7 @@
 // Committing a range of pages (paged.rs 301).
+
+#![tactic(auto)]
+
 ghost use Rattle.std.specs.Prelude.{◌≡◌, List, [], ℕ, ◌+◌, ◌≤◌, ◌<◌};
 ghost use Rattle.node.specs.Node.{byte_limit};
 ghost use Rattle.outcome.specs.Outcome.{outcome};

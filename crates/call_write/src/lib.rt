@@ -1,4 +1,7 @@
 // Writing a range of bytes (paged.rs 235).
+
+#![tactic(auto)]
+
 ghost use Rattle.std.specs.Prelude.{◌≡◌, List, [], ℕ, ◌+◌, ◌≤◌, ◌<◌, length};
 ghost use Rattle.node.specs.Node.{byte_limit};
 ghost use Rattle.outcome.specs.Outcome.{outcome};

@@ -10,7 +10,7 @@ use notices::Span;
 use outcome::{Answer, Reply};
 
 // A child of an object's node, the hidden node above both, and the child's pages: so many from first on.
-#[derive(Drop)]
+#[derive(Clone, Copy)]
 pub struct Birth {
     pub node: u32,
     pub child: u32,

@@ -1,4 +1,7 @@
 // The call create_child (paged.rs 324 and 761 to 836): a snapshot of an object's pages, and a hidden node above both.
+
+#![tactic(auto)]
+
 mod birth;
 
 ghost use Rattle.std.specs.Prelude.{◌≡◌, List, [], ℕ, ◌≤◌, ◌<◌, get_or};

@@ -1,4 +1,7 @@
 // The call commit_page (paged.rs 520): one page looked up for reading or for writing.
+
+#![tactic(auto)]
+
 ghost use Rattle.std.specs.Prelude.{◌≡◌, List, [], ℕ, ◌≤◌};
 ghost use Rattle.outcome.specs.declared.answer.Against.TheVariants.{Nothing as Fine};
 ghost use Rattle.outcome.specs.Outcome.{outcome};

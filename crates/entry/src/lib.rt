@@ -1,15 +1,18 @@
 // A page's state (paged.rs 102 to 152) and the word that holds it in the lent table: 0 for none, else frame + 1, + 4,096 x tag, + 16,384 x pins.
+
+#![tactic(auto)]
+
 ghost use Rattle.std.specs.Prelude.{◌≡◌, ◌≤◌};
 ghost use Rattle.entry.specs.Entry.{negate_of, split_of, tag_number, tag_of, new_state, entry_word, slot_of, tagged_of};
 
-#[derive(Drop)]
+#[derive(Clone, Copy)]
 pub enum PageStateTag {
     Owned,
     LeftSplit,
     RightSplit,
 }
 
-#[derive(Drop)]
+#[derive(Clone, Copy)]
 pub struct PageState {
     pub frame: u32,
     pub tag: PageStateTag,
@@ -17,7 +20,7 @@ pub struct PageState {
 }
 
 // What a node's map has for a page.
-#[derive(Drop)]
+#[derive(Clone, Copy)]
 pub enum Slot {
     Empty,
     Held(PageState),

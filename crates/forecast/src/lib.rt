@@ -1,4 +1,7 @@
 // The call forecast: are there as many free frames as the range has pages that the leaf does not hold?
+
+#![tactic(auto)]
+
 ghost use Rattle.std.specs.Prelude.{◌≡◌, [], ◌≤◌, ◌<◌};
 ghost use Rattle.outcome.specs.Outcome.{outcome};
 ghost use Rattle.tables.specs.Pool.{pool_of};

@@ -1,4 +1,7 @@
 // Frames: which are in use, and their bytes inside the lent memory. No function here holds a page of its own.
+
+#![tactic(auto)]
+
 ghost use Rattle.std.specs.Prelude.{◌≡◌, not, ℕ, ◌+◌, ◌-◌, ◌^◌, ◌≤◌, ◌<◌, length, set};
 ghost use Rattle.logic.specs.Below.{all_below, first_from, copied};
 ghost use Rattle.frames.specs.Frames.{idle_of, free_count, free_frame_in, taken_of, given_of, cleared_at, copied_at, pasted_at, blank_at};

@@ -1,4 +1,7 @@
 // The calls on an object's bytes and pages for C and Rust: each answers document 01's number and puts the value behind a reference.
+
+#![tactic(auto)]
+
 mod bytes;
 
 ghost use Rattle.std.specs.Prelude.{◌≡◌, []};

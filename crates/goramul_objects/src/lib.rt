@@ -1,4 +1,7 @@
 // The calls on objects and mappings for C and Rust: each answers document 01's number and puts the value behind a reference.
+
+#![tactic(auto)]
+
 mod children;
 
 ghost use Rattle.std.specs.Prelude.{◌≡◌, []};

@@ -1,7 +1,10 @@
 // A line of a trace: a letter, then decimal numbers, one space between fields.
+
+#![tactic(auto)]
+
 ghost use Rattle.std.specs.Prelude.{◌≤◌};
 
-#[derive(Drop)]
+#[derive(Clone, Copy)]
 pub struct Line {
     pub letter: u8,
     pub count: u32,
@@ -12,14 +15,14 @@ pub struct Line {
     pub e: u64,
 }
 
-#[derive(Drop)]
+#[derive(Clone, Copy)]
 pub enum Read {
     Call(Line),
     Bad,
 }
 
 // Where a reader stands: before the letter, right after it, in a number, or past a fault.
-#[derive(Drop)]
+#[derive(Clone, Copy)]
 pub enum Place {
     Start,
     Letter,
@@ -28,7 +31,7 @@ pub enum Place {
 }
 
 // A line so far: what is read of it, and the number that is being read.
-#[derive(Drop)]
+#[derive(Clone, Copy)]
 pub struct Reader {
     pub place: Place,
     pub line: Line,

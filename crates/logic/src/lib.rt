@@ -1,5 +1,8 @@
 // What a search finds. The rest of this crate is definitions and laws.
-#[derive(Drop)]
+
+#![tactic(auto)]
+
+#[derive(Clone, Copy)]
 pub enum Found {
     At(u32),
     Nothing,

@@ -1,5 +1,7 @@
 // What page lookup is about (commit_page_internal, paged.rs 531 to 640); its rule is in specs/, its code in the crates above.
 
+#![tactic(auto)]
+
 ghost use Rattle.std.specs.Prelude.{◌≡◌};
 ghost use Rattle.lookup.specs.Commit.{ask_of};
 
@@ -7,7 +9,7 @@ use entry::PageState;
 use outcome::Refusal;
 
 // CommitResult (paged.rs 466), with the zero frame and what ends a lookup: what a node answers to who asks it for a page.
-#[derive(Drop)]
+#[derive(Clone, Copy)]
 pub enum CommitResult {
     // A frame that stays where it is.
     Ref(u32),
@@ -22,14 +24,14 @@ pub enum CommitResult {
 }
 
 // An answer, and how many notices the list has by then.
-#[derive(Drop)]
+#[derive(Clone, Copy)]
 pub struct Step {
     pub looked: CommitResult,
     pub count: usize,
 }
 
 // A node's page, and the child of the node that asks for it (or the node itself).
-#[derive(Drop)]
+#[derive(Clone, Copy)]
 pub struct Place {
     pub node: u32,
     pub page: u64,
@@ -37,7 +39,7 @@ pub struct Place {
 }
 
 // A page asked for, for reading or for writing; and how many notices the list has.
-#[derive(Drop)]
+#[derive(Clone, Copy)]
 pub struct Ask {
     pub place: Place,
     pub write: bool,
@@ -63,7 +65,7 @@ impl Ask {
 }
 
 // What page lookup gives: a frame, the shared zero frame, or a refusal.
-#[derive(Drop)]
+#[derive(Clone, Copy)]
 pub enum Committed {
     Frame(u32),
     ZeroFrame,
@@ -71,14 +73,14 @@ pub enum Committed {
 }
 
 // The same, and how many notices the list has by then.
-#[derive(Drop)]
+#[derive(Clone, Copy)]
 pub struct Commit {
     pub committed: Committed,
     pub count: usize,
 }
 
 // Where a walk ends: at a node that has the page, at one that has no parent to ask, or for want of steps.
-#[derive(Drop)]
+#[derive(Clone, Copy)]
 pub enum End {
     Has(PageState),
     Bare,
@@ -86,14 +88,14 @@ pub enum End {
 }
 
 // One node's turn of a walk: the end, or the parent's page.
-#[derive(Drop)]
+#[derive(Clone, Copy)]
 pub enum Turn {
     Ends(End),
     Climbs(Place),
 }
 
 // So many levels up a walk ends, at the place `top`; `hidden`: all nodes above the first are hidden.
-#[derive(Drop)]
+#[derive(Clone, Copy)]
 pub struct Walked {
     pub levels: u32,
     pub end: End,

@@ -1,4 +1,7 @@
 // An object's mappings (paged.rs 332 to 344): live ones stand first, in the order of appending; the lowest free number is given.
+
+#![tactic(auto)]
+
 ghost use Rattle.std.specs.Prelude.{◌≡◌, ◌<◌};
 ghost use Rattle.mappings.specs.Mappings.{free_place, unused, free_number, with_mapping, listed_of, append, is_at, place_of, closed_up, removed};
 

@@ -1,10 +1,13 @@
 // A node's record (paged.rs 18 to 99), by value. Windows and size are counted in pages. A link is 0 for none, else a node's number + 1.
+
+#![tactic(auto)]
+
 ghost use Rattle.std.specs.Prelude.{◌≡◌, true, ◌+◌, ◌≤◌, ◌<◌, min};
 ghost use Rattle.node.specs.Node.{byte_limit, free_node, origin_node, hidden_of, leaf_of, cached_of, contains_of, window_of, out_of, side_of, snapshot_node, hidden_node, below_node, relinked_node};
 
 use entry::PageStateTag;
 
-#[derive(Drop)]
+#[derive(Clone, Copy)]
 pub struct Node {
     pub kind: u32,
     pub parent: u32,
@@ -19,7 +22,7 @@ pub struct Node {
 }
 
 // How a child is tagged, and the link to the other child.
-#[derive(Drop)]
+#[derive(Clone, Copy)]
 pub struct Side {
     pub tag: PageStateTag,
     pub other: u32,

@@ -1,4 +1,7 @@
 // Notices to mappings: range_change of an object (paged.rs 646 to 666) and of a mapping (vmar.rs 1010 to 1036), in pages.
+
+#![tactic(auto)]
+
 ghost use Rattle.std.specs.Prelude.{◌≡◌, max, min};
 ghost use Rattle.outcome.specs.Told.{told_of};
 ghost use Rattle.notices.specs.Notices.{overlap_of, tell_place, tell_object, child_of, range_change};
@@ -7,14 +10,14 @@ use node::Node;
 use outcome::Notice;
 use tables::Mapping;
 
-#[derive(Drop)]
+#[derive(Clone, Copy)]
 pub enum Due {
     Notice(Notice),
     Nothing,
 }
 
 // Pages of a node from lo to hi, and what is due for them.
-#[derive(Drop)]
+#[derive(Clone, Copy)]
 pub struct Span {
     pub lo: u64,
     pub hi: u64,

@@ -2,7 +2,7 @@
 ghost use Rattle.std.specs.Prelude.{◌≡◌};
 ghost use Rattle.outcome.specs.Answers.{refusal_number, code_of, value_of};
 
-#[derive(Drop)]
+#[derive(Clone, Copy)]
 pub enum Refusal {
     OutOfRange,
     BadState,
@@ -18,14 +18,14 @@ pub enum Refusal {
     PinLedger,
 }
 
-#[derive(Drop)]
+#[derive(Clone, Copy)]
 pub enum Answer {
     Done(u64),
     Refused(Refusal),
 }
 
 // What a call's tests found against it.
-#[derive(Drop)]
+#[derive(Clone, Copy)]
 pub enum Against {
     Why(Refusal),
     Nothing,

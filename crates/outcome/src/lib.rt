@@ -1,4 +1,7 @@
 // What a call gives: its answer, the notices it sends, and how much it did.
+
+#![tactic(auto)]
+
 mod answer;
 mod notice;
 mod reply;

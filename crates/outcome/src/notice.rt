@@ -8,7 +8,7 @@ pub const UNMAP: u32 = 1;
 pub const REMOVE_WRITE: u32 = 2;
 
 // A mapping's number, the first page in it, how many pages, and what is due.
-#[derive(Drop)]
+#[derive(Clone, Copy)]
 pub struct Notice {
     pub mapping: u32,
     pub first: u32,

@@ -7,7 +7,7 @@ ghost use Rattle.outcome.specs.Outcome.{reply_of};
 use crate::answer::{Answer, Refusal};
 
 // The answer, the bytes done, the frames taken, and how many notices the list has by then.
-#[derive(Drop)]
+#[derive(Clone, Copy)]
 pub struct Reply {
     pub answer: Answer,
     pub done: u64,

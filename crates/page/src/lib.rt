@@ -1,4 +1,7 @@
 // One page of a read, a write and a commit.
+
+#![tactic(auto)]
+
 mod reading;
 mod writing;
 
@@ -8,21 +11,21 @@ pub use reading::read_page;
 pub use writing::{commit_one, write_page};
 
 // What stands against a page, where the next one is, and how many notices the list has by then.
-#[derive(Drop)]
+#[derive(Clone, Copy)]
 pub struct WritePart {
     pub why: Against,
     pub rest: BlockIter,
     pub count: usize,
 }
 
-#[derive(Drop)]
+#[derive(Clone, Copy)]
 pub struct CommitPart {
     pub why: Against,
     pub rest: u64,
     pub count: usize,
 }
 
-#[derive(Drop)]
+#[derive(Clone, Copy)]
 pub struct ReadPart {
     pub why: Against,
     pub rest: BlockIter,

@@ -1,4 +1,7 @@
 // The call peek: one page's bytes as a read would give them, without a copy and with nothing moved.
+
+#![tactic(auto)]
+
 ghost use Rattle.std.specs.Prelude.{◌≡◌, List, ℕ};
 ghost use Rattle.tables.specs.Pool.{pool_of};
 ghost use Rattle.peek.specs.Peek.{zero_page_of, shown_by, place_at, place, frame_bytes, peek, place_numbers};
@@ -7,7 +10,7 @@ use lookup::{End, Place};
 use pool::Entered;
 
 // Where a page's bytes are.
-#[derive(Drop)]
+#[derive(Clone, Copy)]
 pub enum Shown {
     Frame(u32),
     ZeroPage,

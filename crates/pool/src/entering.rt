@@ -7,7 +7,7 @@ ghost use Rattle.pool.specs.Calls.{entered};
 use outcome::Refusal;
 
 // An object's node, or why the call is refused.
-#[derive(Drop)]
+#[derive(Clone, Copy)]
 pub enum Entered {
     At(u32),
     Refused(Refusal),

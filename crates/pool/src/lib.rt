@@ -1,4 +1,7 @@
 // The calls. Each tests the pool, the object and the arguments in document 01's order, and then makes one step.
+
+#![tactic(auto)]
+
 mod entering;
 mod steps;
 

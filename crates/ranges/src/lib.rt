@@ -1,5 +1,7 @@
 // What read, write and commit share; their rules are in specs/.
 
+#![tactic(auto)]
+
 ghost use Rattle.std.specs.Prelude.{◌≡◌, ◌-◌};
 ghost use Rattle.ranges.specs.Ranges.{answer_by};
 

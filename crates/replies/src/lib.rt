@@ -1,4 +1,7 @@
 // A line's call on the pool: the letter and how many numbers follow it choose it.
+
+#![tactic(auto)]
+
 mod bytes;
 mod contents;
 mod objects;

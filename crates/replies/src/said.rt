@@ -1,7 +1,7 @@
 // What a line's call came to.
 use outcome::Reply;
 
-#[derive(Drop)]
+#[derive(Clone, Copy)]
 pub enum Did {
     Said(Reply),
     Nothing,

@@ -1,4 +1,7 @@
 // The numbers of an answer line: hashes of the tree, the mappings and the frames in use.
+
+#![tactic(auto)]
+
 ghost use Rattle.std.specs.Prelude.{◌≤◌};
 
 use node::Node;

@@ -1,4 +1,7 @@
 // The sound pool of document 01 as one pass over the lent tables: the lengths, then the tree, the page entries and the mappings.
+
+#![tactic(auto)]
+
 mod maps;
 mod rows;
 mod tree;

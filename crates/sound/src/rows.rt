@@ -4,7 +4,7 @@ ghost use Rattle.sound.specs.Rows.{entry_ok, row_next, walked, row_count, row_of
 ghost use Rattle.tables.specs.Tables.{entry_of};
 
 // A row so far: its entries are good, their pins add up to this, and so many are there.
-#[derive(Drop)]
+#[derive(Clone, Copy)]
 struct Row {
     ok: bool,
     pins: u32,

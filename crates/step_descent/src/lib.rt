@@ -1,4 +1,7 @@
 // The descent: what the walk found comes down, each node doing its part.
+
+#![tactic(auto)]
+
 mod committing;
 
 ghost use Rattle.std.specs.Prelude.{◌≡◌, false, List, ℕ, ◌+◌, ◌*◌, ◌≤◌};

@@ -1,4 +1,7 @@
 // One node's part of a lookup.
+
+#![tactic(auto)]
+
 ghost use Rattle.std.specs.Prelude.{◌≡◌, Bool, List, ℕ, ◌≤◌, ◌<◌};
 ghost use Rattle.node.specs.Node.{side_of};
 ghost use Rattle.tables.specs.Tables.{node_of};

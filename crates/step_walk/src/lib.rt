@@ -1,4 +1,7 @@
 // The walk: who has the page?
+
+#![tactic(auto)]
+
 ghost use Rattle.std.specs.Prelude.{◌≡◌, List, ℕ, ◌+◌, ◌-◌, ◌≤◌};
 ghost use Rattle.node.specs.Node.{hidden_of, out_of};
 ghost use Rattle.tables.specs.Tables.{node_of};

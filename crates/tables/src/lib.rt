@@ -1,4 +1,7 @@
 // The lent tables, read and written at any index: past its end a table reads as 0 (or as a free record), and a write there does nothing.
+
+#![tactic(auto)]
+
 mod live;
 mod rows;
 
@@ -12,7 +15,7 @@ use node::Node;
 pub use rows::move_row;
 
 // A mapping in the order of appending: its number + 1 (0: none), its object, and the object's pages that it shows.
-#[derive(Drop)]
+#[derive(Clone, Copy)]
 pub struct Mapping {
     pub number: u32,
     pub object: u32,

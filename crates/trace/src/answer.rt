@@ -5,7 +5,7 @@ use lines::{Line, Read, Reader};
 use replies::{Did, in_bytes};
 
 // Between lines: how many frames the pool has and how many notices the lent list takes.
-#[derive(Drop)]
+#[derive(Clone, Copy)]
 pub struct State {
     pub frames: u64,
     pub room: u64,

@@ -6,7 +6,7 @@ use crate::answer::State;
 use lines::Reader;
 
 // A line so far, and the state before it.
-#[derive(Drop)]
+#[derive(Clone, Copy)]
 pub struct Going {
     pub reader: Reader,
     pub state: State,

@@ -1,4 +1,7 @@
 // Answers a trace on standard input by the proved calls, a line for each line. Its pools have at most 64 frames.
+
+#![tactic(auto)]
+
 mod answer;
 mod cut;
 mod going;

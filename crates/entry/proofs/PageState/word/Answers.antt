@@ -1,0 +1,7 @@
+use Rattle.entry.specs.Entry.{entry_word}
+use borrow.Author.Rules.{rules}
+use Rattle.entry.proofs.PageState.word.Goals as goal
+
+pub returns : goal.returns
+unfolding entry_word
+returns c = rw (← c.number.ensures.value)

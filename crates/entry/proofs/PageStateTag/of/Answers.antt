@@ -1,0 +1,15 @@
+use borrow.Author.Tests.{eq-eqb, ne_eqb}
+use Rattle.entry.specs.Entry.{tag_of}
+use Rattle.entry.proofs.PageStateTag.of.Goals as goal
+
+pub returns-then-n-eq0 : goal.returns-then-n-eq0
+unfolding tag_of
+returns-then-n-eq0 c = simp (eq-eqb _ _ c.if-n-eq0.true)
+
+pub returns-then-n-eq1 : goal.returns-then-n-eq1
+unfolding tag_of
+returns-then-n-eq1 c = simp (ne_eqb _ _ c.if-n-eq0.false, eq-eqb _ _ c.if-n-eq1.true)
+
+pub returns : goal.returns
+unfolding tag_of
+returns c = simp (ne_eqb _ _ c.if-n-eq0.false, ne_eqb _ _ c.if-n-eq1.false)

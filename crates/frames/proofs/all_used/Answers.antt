@@ -1,0 +1,22 @@
+use mathlib.Core.Path.{◌≡◌, refl}
+use mathlib.Core.Bool.{not}
+use Prim.Native.Nat.{◌+◌, ◌-◌, ◌≤◌}
+use native.Mathlib.Omega.{arith}
+use Rattle.logic.specs.Below.{all_below}
+use Rattle.logic.proofs.Laws.{all_next}
+use Rattle.frames.specs.Frames.{idle_of}
+use Rattle.frames.proofs.Flags.{mark_busy}
+use borrow.Author.Rules.{rules}
+use Rattle.frames.proofs.all_used.Goals as goal
+
+pub loop-k-init : goal.loop-k-init
+unfolding all_below
+loop-k-init c = (search rules, refl)
+
+pub loop-k-preserved : goal.loop-k-preserved
+loop-k-preserved c = (search rules, all_next _ _ c.loop-k.invariant.1 (mark_busy _ _ (search rules)))
+
+pub returns : goal.returns
+returns c =
+    let h : c.loop-k.k ≡ c.args.n = omega arith in
+    rw h at c.loop-k.invariant.1

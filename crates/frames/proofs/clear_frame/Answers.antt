@@ -1,0 +1,7 @@
+use Rattle.frames.specs.Frames.{cleared_at, blank_at}
+use borrow.Author.Rules.{rules}
+use Rattle.frames.proofs.clear_frame.Goals as goal
+
+pub returns : goal.returns
+unfolding cleared_at blank_at
+returns c = c.blank.ensures

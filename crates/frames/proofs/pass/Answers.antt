@@ -1,0 +1,13 @@
+use mathlib.Core.Path.{◌≡◌, refl, sym, ◌∙◌}
+use Prim.Native.Nat.{◌-◌, ◌≤◌}
+use Rattle.logic.specs.Below.{first_from}
+use Rattle.frames.specs.Frames.{idle_of}
+use Rattle.frames.proofs.Flags.{skip}
+use borrow.Author.Rules.{rules}
+use Rattle.frames.proofs.pass.Goals as goal
+
+pub loop-a-init : goal.loop-a-init
+loop-a-init c = (search rules, refl)
+
+pub loop-a-preserved : goal.loop-a-preserved
+loop-a-preserved c = (search rules, sym (skip _ _ _ 1024 (search rules) (sym c.all_used.ensures ∙ c.if-not-all_used.false)) ∙ c.loop-a.invariant.1)

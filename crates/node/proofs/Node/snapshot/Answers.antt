@@ -1,0 +1,5 @@
+use borrow.Author.Rules.{rules}
+use Rattle.node.proofs.Node.snapshot.Goals as goal
+
+pub returns : goal.returns
+returns c = rw (← c.window_end.ensures)

@@ -1,0 +1,7 @@
+use Rattle.tables.specs.Tables.{without_state}
+use borrow.Author.Rules.{rules}
+use Rattle.tables.proofs.clear_state.Goals as goal
+
+pub returns : goal.returns
+unfolding without_state
+returns c = c.put_entry.ensures

@@ -1,0 +1,7 @@
+use Rattle.tables.specs.Tables.{with_state}
+use borrow.Author.Rules.{rules}
+use Rattle.tables.proofs.set_state.Goals as goal
+
+pub returns : goal.returns
+unfolding with_state
+returns c = rw (← c.word.ensures) c.put_entry.ensures
