@@ -1,6 +1,6 @@
 -- A place of the mappings, free or held; and blank places at the end of the list. Assumes nothing.
 use mathlib.Core.Path.{◌≡◌, sym, ap, ◌∙◌}
-use mathlib.Core.Bool.{Bool, true, false, ◌&&◌, and_true}
+use mathlib.Core.Bool.{Bool, true, false, ◌&&◌, and-true}
 use mathlib.Core.List.{List}
 use Prim.Native.Nat.{ℕ, ◌+◌, ◌*◌, ◌≤◌, ◌<◌}
 use native.Mathlib.Omega.{arith}
@@ -41,7 +41,7 @@ module _ (M : List ℕ) (k : ℕ) (e : length M ≡ 256) (l : k ≤ 64) (rest : 
 
   places_rest : (N : List ℕ) → all_below (place_ok N M) k ≡ places_ok N M
   unfolding places_ok all_below place_ok
-  places_rest N = run_rest (all_below (place_ok N M)) k 64 l (λ j a b. rw (rest j a b, number_rest (j + 1) (omega arith)) (and_true (all_below (place_ok N M) j)))
+  places_rest N = run_rest (all_below (place_ok N M)) k 64 l (λ j a b. rw (rest j a b, number_rest (j + 1) (omega arith)) (and-true (all_below (place_ok N M) j)))
 
   pub mappings_by : (N : List ℕ) {marks : List ℕ} {p o : Bool} → marks ≡ mark_run (number_of M) k (replicate 65 0) → p ≡ all_below (place_ok N M) k → o ≡ all_below (once_at marks) 65 → (p && o) ≡ mappings_ok N M
   unfolding mappings_ok

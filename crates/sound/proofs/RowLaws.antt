@@ -1,6 +1,6 @@
 -- Turns of the walk along the page entries. Assumes nothing.
 use mathlib.Core.Path.{◌≡◌, refl, sym, ap, ◌∙◌}
-use mathlib.Core.Bool.{Bool, true, false, ◌&&◌, ◌||◌, not, and_assoc, and_true}
+use mathlib.Core.Bool.{Bool, true, false, ◌&&◌, ◌||◌, not, and_assoc, and-true}
 use mathlib.Core.List.{List}
 use Prim.Native.Nat.{ℕ, zero, suc, ◌+◌, ◌-◌, ◌*◌, ◌/◌, ◌%◌, ◌≤◌, ◌<◌}
 use native.Mathlib.Omega.{arith}
@@ -48,7 +48,7 @@ unfolding row_next entry_ok
 row_same hidden size F i e row h =
     let p : row.pins + 0 ≡ row.pins = omega arith in
     let s : row.seen + 0 ≡ row.seen = omega arith in
-    rw (h, p, s) (rw (and_true row.ok))
+    rw (h, p, s) (rw (and-true row.ok))
 
 pub row_more : (hidden : Bool) (size F i e : ℕ) (row : Row) {b : Bool} → (e ≡ 0 → ⊥) → b ≡ entry_ok hidden size F i e → row_of (row.ok && b) (row.pins + e / 16384) (row.seen + 1) ≡ row_next hidden size F i e row
 unfolding row_next

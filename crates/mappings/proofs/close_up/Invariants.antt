@@ -1,0 +1,14 @@
+use mathlib.Core.Path.{◌≡◌, refl}
+use Prim.Native.Nat.{◌≤◌, ◌-◌, ◌+◌, ◌*◌}
+use native.Mathlib.Omega.{arith}
+use lib.ListN.{length}
+use Rattle.logic.specs.Below.{copied}
+use Rattle.mappings.proofs.Laws.{up_turn, closed_by}
+use borrow.Author.Rules.{rules}
+use Rattle.mappings.proofs.close_up.Given as goal
+
+abbrev pub invariant-loop-k : goal.invariant-loop-k
+invariant-loop-k l = (l.k ≤ l.n) × (length l.mappings ≡ length l.initial.mappings) × (l.mappings ≡ copied l.initial.mappings l.a l.initial.mappings (l.a + 4) l.k)
+
+abbrev pub decreases-loop-k : goal.decreases-loop-k
+decreases-loop-k l = l.n - l.k

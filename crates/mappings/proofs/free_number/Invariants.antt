@@ -1,0 +1,13 @@
+use mathlib.Core.Path.{◌≡◌, refl, sym, ◌∙◌}
+use Prim.Native.Nat.{◌≤◌, ◌-◌}
+use Rattle.logic.specs.Below.{first_from}
+use Rattle.logic.proofs.Laws.{first_found, first_next, first-none}
+use Rattle.mappings.specs.Mappings.{free_number, unused}
+use borrow.Author.Rules.{rules}
+use Rattle.mappings.proofs.free_number.Given as goal
+
+abbrev pub invariant-loop-i : goal.invariant-loop-i
+invariant-loop-i l = (l.i ≤ 64) × (first_from (unused l.mappings) l.i (64 - l.i) ≡ free_number l.mappings)
+
+abbrev pub decreases-loop-i : goal.decreases-loop-i
+decreases-loop-i l = 64 - l.i

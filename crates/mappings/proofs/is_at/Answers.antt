@@ -1,0 +1,6 @@
+use Rattle.mappings.proofs.Laws.{at_by}
+use borrow.Author.Rules.{rules}
+use Rattle.mappings.proofs.is_at.Goals as goal
+
+pub returns : goal.returns
+returns c = at_by _ _ _ _ c.mapping_at-m.ensures

@@ -1,0 +1,7 @@
+use mathlib.Core.Path.{refl}
+use Rattle.sound.proofs.RowLaws.{mark_plain}
+use borrow.Author.Rules.{rules}
+use Rattle.sound.proofs.rows.plain_step.Goals as goal
+
+pub returns : goal.returns
+returns c = (refl, mark_plain _ c.requires.1 _ c.requires.0 c.more.ensures)

@@ -1,0 +1,6 @@
+use Rattle.sound.proofs.TreeLaws.{links_by}
+use borrow.Author.Rules.{rules}
+use Rattle.sound.proofs.tree.links_ok.Goals as goal
+
+pub returns : goal.returns
+returns c = links_by _ _ _ c.children_ok.ensures c.parent_ok.ensures

@@ -1,0 +1,21 @@
+use mathlib.Core.Path.{◌≡◌, refl}
+use Prim.Native.Nat.{◌≤◌, ◌-◌}
+use native.Mathlib.Omega.{arith}
+use Rattle.logic.specs.Below.{all_below}
+use Rattle.logic.proofs.Laws.{all_next}
+use Rattle.sound.specs.Tree.{node_ok, nodes_ok}
+use borrow.Author.Rules.{rules}
+use Rattle.sound.proofs.tree.nodes_ok.Goals as goal
+
+pub loop-i-init : goal.loop-i-init
+unfolding all_below
+loop-i-init c = (search rules, refl)
+
+pub loop-i-preserved : goal.loop-i-preserved
+loop-i-preserved c = (search rules, all_next _ _ c.loop-i.invariant.1 c.node_ok-ok.ensures)
+
+pub returns : goal.returns
+unfolding nodes_ok
+returns c =
+    let h : c.loop-i.i ≡ 64 = omega arith in
+    rw h at c.loop-i.invariant.1

@@ -1,0 +1,15 @@
+use mathlib.Core.Path.{◌≡◌, refl}
+use Prim.Native.Nat.{◌≤◌, ◌-◌}
+use native.Mathlib.Omega.{arith}
+use lib.ListN.{length}
+use Rattle.logic.specs.Below.{all_below}
+use Rattle.logic.proofs.Laws.{all_next}
+use Rattle.sound.specs.Tree.{none_at}
+use borrow.Author.Rules.{rules}
+use Rattle.sound.proofs.tree.none_left.Given as goal
+
+abbrev pub invariant-loop-i : goal.invariant-loop-i
+invariant-loop-i l = (l.i ≤ 65) × (l.ok ≡ all_below (none_at l.up) l.i)
+
+abbrev pub decreases-loop-i : goal.decreases-loop-i
+decreases-loop-i l = 65 - l.i

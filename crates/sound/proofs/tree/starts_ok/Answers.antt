@@ -1,0 +1,7 @@
+use Rattle.sound.specs.Tree.{starts_ok}
+use borrow.Author.Rules.{rules}
+use Rattle.sound.proofs.tree.starts_ok.Goals as goal
+
+pub returns : goal.returns
+unfolding starts_ok
+returns c = rw (← c.starts.ensures.value)
