@@ -1,0 +1,14 @@
+use mathlib.Core.Path.{◌≡◌, refl}
+use mathlib.Core.List.{◌++◌}
+use Prim.Native.Nat.{◌≤◌, ◌-◌}
+use native.Mathlib.Omega.{arith}
+use lib.ListN.{length, replicate, drop, length-set}
+use Rattle.pool.proofs.Laws.{fill_turn, fill_end}
+use borrow.Author.Rules.{rules}
+use Rattle.pool.proofs.steps.clear_flags.Given as goal
+
+abbrev pub invariant-loop-k : goal.invariant-loop-k
+invariant-loop-k l = (l.k ≤ length l.initial.s) × (length l.s ≡ length l.initial.s) × (l.s ≡ replicate l.k 0 ++ drop l.k l.initial.s)
+
+abbrev pub decreases-loop-k : goal.decreases-loop-k
+decreases-loop-k l = length l.initial.s - l.k

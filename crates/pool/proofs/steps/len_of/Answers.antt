@@ -1,0 +1,7 @@
+use Rattle.pool.specs.Calls.{len_of}
+use borrow.Author.Rules.{rules}
+use Rattle.pool.proofs.steps.len_of.Goals as goal
+
+pub returns : goal.returns
+unfolding len_of
+returns c = rw (← c.node_at-n.ensures)
