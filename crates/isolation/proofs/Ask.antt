@@ -1,5 +1,5 @@
 -- The lookup lemma for a node that its child asks, by the exits of lookup. Assumes nothing.
-use mathlib.Core.Path.{◌≡◌, refl, sym, ap, ◌∙◌}
+use mathlib.Core.Path.{◌≡◌, refl, sym, ap, subst, ◌∙◌}
 use mathlib.Core.Bool.{Bool, true, false}
 use mathlib.Core.List.{List}
 use Prim.Native.Nat.{ℕ, ◌+◌, ◌<◌}
@@ -9,7 +9,7 @@ use Rattle.logic.specs.declared.Found.{Found}
 use Rattle.logic.specs.declared.Found.TheVariants.{At, Nothing}
 use Rattle.logic.proofs.Laws.{true_not}
 use Rattle.entry.specs.declared.Slot.{Slot}
-use Rattle.entry.specs.declared.Slot.TheVariants.{Empty}
+use Rattle.entry.specs.declared.Slot.TheVariants.{Empty, Held}
 use Rattle.entry.specs.Entry.{new_state}
 use Rattle.node.specs.Node.{hidden_of}
 use Rattle.tables.specs.Tables.{node_of, slot_at}
@@ -18,11 +18,12 @@ use Rattle.lookup.specs.declared.CommitResult.TheVariants.{Ref, Zero, CopyOnWrit
 use Rattle.lookup.specs.declared.End.{End}
 use Rattle.lookup.specs.declared.End.TheVariants.{Tired}
 use Rattle.lookup.specs.Work.{Work, Looking, looking_of}
-use Rattle.lookup.specs.Mode.{today, place_of, asks}
-use Rattle.lookup.specs.Level.{kept, cleared}
+use Rattle.lookup.specs.declared.Place.{Place}
+use Rattle.lookup.specs.Mode.{today, place_of, asks, node_at, halts_at, up as up_of}
+use Rattle.lookup.specs.Level.{kept, kept_at, cleared, slot_in}
 use Rattle.lookup.proofs.Join.{Final}
 use Rattle.lookup.proofs.Ways.{Serves}
-use Rattle.lookup.proofs.Looks.{Looks}
+use Rattle.lookup.proofs.Looks.{Looks, Alone, Asked as Climbs}
 use Rattle.lookup.proofs.Looks.Looks.{has, zeros, short, stops, clears, fills, quits, rests, falls, lands, takes}
 use Rattle.sound.specs.Facts.{Holds}
 use Rattle.lookups.proofs.Spots.{held_not}
@@ -107,29 +108,48 @@ pub asks_same : (L : ℕ) (N M : List ℕ) (n i c : ℕ) → asks (today L N M) 
 unfolding asks
 asks_same L N M n i c = refl
 
+-- what the parent of c answers, at the place where it is asked
+ask_at : (N : List ℕ) (G : Ground N) (M : List ℕ) (L F : ℕ) (s : Work) (x : Found) (w : Bool) (c r : ℕ) → Ok N L F s → (links_of N).asks c r ≡ true → slot_at s.pages c r ≡ Empty
+    → Near (links_of N) (slot_at s.pages) c r x → {d : ℕ} {y : End} (p : Place) → p ≡ place_of ((links_of N).par c) ((links_of N).start c + r) c → (z : Looking) → (y ≡ Tired → ⊥)
+    → Looks (today L N M) w s d p y z → Post N L F s c r x w z
+unfolding cleared
+ask_at N G M L F s x w c r o a bare near p q z never (has e y t) =
+    serves_post N G L F c r a M w x s o bare near e (subst (λ (v : Place). slot_in s v ≡ Held e) q y) (subst (λ (v : Place). Serves (today L N M) w v e false s z) q t)
+ask_at N G M L F s x w c r o a bare near p q z never (zeros b k e) =
+    let b' = subst (λ (v : Place). Alone (today L N M) s v) q b in
+    let t = no_more N G M L F c r w a (sym (asks_same L N M _ _ c) ∙ b'.end) (beyond N G M L F c r w a b'.empty near) in
+    rw e (record { still = λ a b out. refl; done = record { reading = k; nothing = t; same = refl } })
+ask_at N G M L F s x w c r o a bare near p q z never (short b k f e) = rw e (record { still = λ a b out. refl; done = record { writing = k; step = step_same N G L F s s.told o; no_frame = f } })
+ask_at N G M L F s x w c r o a bare near p q z never (stops g b k f i out e) =
+    true_not (subst (λ (v : Place). halts_at (today L N M) v ≡ true) q out) (not_out N G ((links_of N).par c) ((links_of N).start c + r) (asked N G c r a).inside)
+ask_at N G M L F s x w c r o a bare near p q z never (clears g b k f i out e) =
+    let b' = subst (λ (v : Place). Alone (today L N M) s v) q b in
+    let t = no_more N G M L F c r w a (sym (asks_same L N M _ _ c) ∙ b'.end) (beyond N G M L F c r w a b'.empty near) in
+    rw e (record { still = λ a b out. refl; done = record { writing = k; nothing = t; free = f; result = refl } })
+ask_at N G M L F s x w c r o a bare near p q z never (fills g b k f i e) =
+    true_not (is_hidden N G M L F c r w a) (subst (λ (v : Place). hidden_of (node_at (today L N M) v) ≡ false) q i)
+ask_at N G M L F s x w c r o a bare near p q z never (quits b e) = absurd (never refl)
+ask_at N G M L F s x w c r o a bare near p q z never (rests b l e) =
+    let b' = subst (λ (v : Place). Climbs (today L N M) s v) q b in
+    let t = ask_at N G M L F s x w ((links_of N).par c) ((links_of N).start c + r) o (sym (asks_same L N M _ _ c) ∙ b'.on) b'.empty (beyond N G M L F c r w a b'.empty near)
+        (up_of (today L N M) p) (ap (up_of (today L N M)) q) z never l in
+    record { still = λ i j out. t.still i j (λ v. out (higher a v)); done = final_post N G M L F c r w a s x z.answer z.work e t.done }
+ask_at N G M L F s x w c r o a bare near p q z never (falls f v b l i e) =
+    let b' = subst (λ (v : Place). Climbs (today L N M) s v) q b in
+    let t = ask_at N G M L F s x w ((links_of N).par c) ((links_of N).start c + r) o (sym (asks_same L N M _ _ c) ∙ b'.on) b'.empty (beyond N G M L F c r w a b'.empty near)
+        (up_of (today L N M) p) (ap (up_of (today L N M)) q) (looking_of (NewPage f) v) never l in
+    rw e (record { still = λ i j out. t.still i j (λ v. out (higher a v)); done = t.done })
+ask_at N G M L F s x w c r o a bare near p q z never (lands f v b l i e) =
+    true_not (is_hidden N G M L F c r w a) (subst (λ (v : Place). hidden_of (node_at (today L N M) v) ≡ false) q i)
+ask_at N G M L F s x w c r o a bare near p q z never (takes f u v b l t) =
+    let b' = subst (λ (v : Place). Climbs (today L N M) s v) q b in
+    let t' = subst (λ (g : Place). Serves (today L N M) w g (new_state f) u (kept_at v g f) z) q t in
+    let h = ask_at N G M L F s x w ((links_of N).par c) ((links_of N).start c + r) o (sym (asks_same L N M _ _ c) ∙ b'.on) b'.empty (beyond N G M L F c r w a b'.empty near)
+        (up_of (today L N M) p) (ap (up_of (today L N M)) q) (looking_of (CopyOnWrite f u) v) never l in
+    own_post N G M L F c r w a x s o bare v f h.done h.still t'
+
 -- what the parent of c answers
 pub ask : (N : List ℕ) (G : Ground N) (M : List ℕ) (L F : ℕ) (s : Work) (c r : ℕ) (x : Found) (w : Bool) → Ok N L F s → (links_of N).asks c r ≡ true → slot_at s.pages c r ≡ Empty
     → Near (links_of N) (slot_at s.pages) c r x → {d : ℕ} {y : End} (z : Looking) → (y ≡ Tired → ⊥) → Looks (today L N M) w s d (place_of ((links_of N).par c) ((links_of N).start c + r) c) y z
     → Post N L F s c r x w z
-unfolding cleared
-ask N G M L F s c r x w o a bare near z never (has e y t) = serves_post N G L F c r a M w x s o bare near e y t
-ask N G M L F s c r x w o a bare near z never (zeros b k e) =
-    let t = no_more N G M L F c r w a (sym (asks_same L N M _ _ c) ∙ b.end) (beyond N G M L F c r w a b.empty near) in
-    rw e (record { still = λ a b out. refl; done = record { reading = k; nothing = t; same = refl } })
-ask N G M L F s c r x w o a bare near z never (short b k f e) = rw e (record { still = λ a b out. refl; done = record { writing = k; step = step_same N G L F s s.told o; no_frame = f } })
-ask N G M L F s c r x w o a bare near z never (stops g b k f i out e) = true_not out (not_out N G ((links_of N).par c) ((links_of N).start c + r) (asked N G c r a).inside)
-ask N G M L F s c r x w o a bare near z never (clears g b k f i out e) =
-    let t = no_more N G M L F c r w a (sym (asks_same L N M _ _ c) ∙ b.end) (beyond N G M L F c r w a b.empty near) in
-    rw e (record { still = λ a b out. refl; done = record { writing = k; nothing = t; free = f; result = refl } })
-ask N G M L F s c r x w o a bare near z never (fills g b k f i e) = true_not (is_hidden N G M L F c r w a) i
-ask N G M L F s c r x w o a bare near z never (quits b e) = absurd (never refl)
-ask N G M L F s c r x w o a bare near z never (rests b l e) =
-    let t = ask N G M L F s ((links_of N).par c) ((links_of N).start c + r) x w o (sym (asks_same L N M _ _ c) ∙ b.on) b.empty (beyond N G M L F c r w a b.empty near) z never l in
-    record { still = λ i j out. t.still i j (λ v. out (higher a v)); done = final_post N G M L F c r w a s x z.answer z.work e t.done }
-ask N G M L F s c r x w o a bare near z never (falls f v b l i e) =
-    let t = ask N G M L F s ((links_of N).par c) ((links_of N).start c + r) x w o (sym (asks_same L N M _ _ c) ∙ b.on) b.empty (beyond N G M L F c r w a b.empty near) (looking_of (NewPage f) v) never l in
-    rw e (record { still = λ i j out. t.still i j (λ v. out (higher a v)); done = t.done })
-ask N G M L F s c r x w o a bare near z never (lands f v b l i e) = true_not (is_hidden N G M L F c r w a) i
-ask N G M L F s c r x w o a bare near z never (takes f u v b l t) =
-    let p = ask N G M L F s ((links_of N).par c) ((links_of N).start c + r) x w o (sym (asks_same L N M _ _ c) ∙ b.on) b.empty (beyond N G M L F c r w a b.empty near) (looking_of (CopyOnWrite f u) v) never l in
-    own_post N G M L F c r w a x s o bare v f p.done p.still t
+ask N G M L F s c r x w o a bare near z never l = ask_at N G M L F s x w c r o a bare near _ refl z never l
