@@ -1,0 +1,11 @@
+use Rattle.pool.proofs.Laws.{object_step, object_refused}
+use borrow.Author.Rules.{rules}
+use Rattle.call_commit.proofs.commit.Goals as goal
+
+pub returns-in-At : goal.returns-in-At
+returns-in-At c =
+    object_step 4096 _ _ _ _ c.enter-entered.ensures.value c.in-At.is (c.commit_at.ensures _)
+
+pub returns-in-Refused : goal.returns-in-Refused
+returns-in-Refused c =
+    rw c.refused.ensures (object_refused 4096 _ _ _ _ c.enter-entered.ensures.value c.in-Refused.is)

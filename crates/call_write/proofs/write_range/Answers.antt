@@ -1,0 +1,61 @@
+use mathlib.Core.Path.{◌≡◌, refl, ◌∙◌}
+use Prim.Native.Nat.{◌≤◌}
+use native.Mathlib.Omega.{arith}
+use lib.ListN.{length}
+use Rattle.outcome.specs.Told.{told_of}
+use Rattle.lookup.specs.Work.{work_of}
+use Rattle.page.specs.Each.{each}
+use Rattle.page.specs.Pages.{write_page}
+use Rattle.ranges.specs.Ranges.{write_range}
+use Rattle.ranges.proofs.Laws.{each_end, each_stop, each_next}
+use Rattle.node.specs.Node.{byte_limit}
+use borrow.Author.Rules.{rules}
+use Rattle.call_write.proofs.write_range.Goals as goal
+
+pub loop-left-init : goal.loop-left-init
+unfolding write_range
+loop-left-init c =
+    let the-pre = c.requires in
+    (omega arith, the-pre, refl, refl, refl, refl, rw c.count-left.ensures)
+
+pub write_page-part-requires : goal.write_page-part-requires
+write_page-part-requires c =
+    (c.loop-left.invariant.0, c.loop-left.invariant.1)
+
+pub returns-in-Why : goal.returns-in-Why
+returns-in-Why c =
+    let the-write-page = c.write_page-part in
+    let the-loop-test = c.loop-left-test in
+    let the-loop = c.loop-left in record {
+      count_after = each_stop (write_page 4096 _ _ _ _ _) the-loop.it _ the-write-page.ensures.count_after the-loop.left (omega (arith, the-loop-test.true))
+          c.in-Why.is ∙ the-loop.invariant.6;
+      fits = the-write-page.ensures.fits.0;
+    }
+
+pub loop-left-smaller : goal.loop-left-smaller
+loop-left-smaller c =
+    let the-loop-test =
+    c.loop-left-test in
+    omega (arith, the-loop-test.true)
+
+pub loop-left-preserved : goal.loop-left-preserved
+loop-left-preserved c =
+    let the-write-page = c.write_page-part in
+    let the-loop-test =
+    c.loop-left-test in
+    let the-loop = c.loop-left in (
+      the-write-page.ensures.fits.0,
+      the-write-page.ensures.fits.1,
+      search rules,
+      search rules,
+      search rules,
+      search rules,
+      each_next (write_page 4096 _ _ _ _ _) the-loop.it _ the-write-page.ensures.count_after the-loop.left _ (omega (arith, the-loop-test.true))
+          c.in-Nothing.is ∙ the-loop.invariant.6,
+    )
+
+pub returns : goal.returns
+returns c = record {
+      count_after = each_end (write_page 4096 _ _ _ _ _) c.loop-left.it _ (omega (arith, c.loop-left-test.false)) ∙ c.loop-left.invariant.6;
+      fits = c.loop-left.invariant.0;
+    }
