@@ -3,6 +3,8 @@ use crate::cut::{at_most, in_words};
 use crate::say;
 use lines::{Line, Read, Reader};
 use replies::{Did, in_bytes};
+use std::io;
+use std::io::Print;
 
 // Between lines: how many frames the pool has and how many notices the lent list takes.
 #[derive(Clone, Copy)]
@@ -50,6 +52,7 @@ fn next(line: Line, state: State) -> State {
 }
 
 fn call(
+    rt: &impl Print,
     line: Line,
     nodes: &mut [u32],
     pages: &mut [u32],
@@ -59,17 +62,20 @@ fn call(
     memory: &mut [u8],
     notices: &mut [u32],
     buf: &mut [u8],
-) {
+) -> io::Result<()> {
     let did = replies::call(
         line, nodes, pages, used, mappings, head, memory, notices, buf,
     );
     match did {
-        Did::Said(reply) => say::answer(reply, nodes, pages, used, mappings, head, memory, notices),
-        Did::Nothing => say::bad(),
+        Did::Said(reply) => say::answer(
+            rt, reply, nodes, pages, used, mappings, head, memory, notices,
+        ),
+        Did::Nothing => say::bad(rt),
     }
 }
 
 pub fn line(
+    rt: &impl Print,
     reader: Reader,
     state: State,
     nodes: &mut [u32],
@@ -80,11 +86,11 @@ pub fn line(
     memory: &mut [u8],
     notices: &mut [u32],
     buf: &mut [u8],
-) -> State {
+) -> io::Result<State> {
     let read = reader.finish();
     let Read::Call(line) = read else {
-        say::bad();
-        return state;
+        say::bad(rt)?;
+        return Ok(state);
     };
     let after = next(line, state);
     let f = at_most(after.frames, used.len());
@@ -92,6 +98,7 @@ pub fn line(
     let w = at_most(in_words(after.room), notices.len());
     let n = at_most(replies::lent(line), buf.len());
     call(
+        rt,
         line,
         nodes,
         pages,
@@ -101,6 +108,6 @@ pub fn line(
         &mut memory[..e],
         &mut notices[..w],
         &mut buf[..n],
-    );
-    after
+    )?;
+    Ok(after)
 }

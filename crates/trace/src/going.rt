@@ -4,6 +4,8 @@ ghost use Rattle.std.specs.Prelude.{◌≤◌, length};
 use crate::answer;
 use crate::answer::State;
 use lines::Reader;
+use std::io;
+use std::io::Print;
 
 // A line so far, and the state before it.
 #[derive(Clone, Copy)]
@@ -27,6 +29,7 @@ pub fn at_start(state: State) -> Going {
 }
 
 fn take_byte(
+    rt: &impl Print,
     byte: u8,
     at: Going,
     nodes: &mut [u32],
@@ -37,19 +40,20 @@ fn take_byte(
     memory: &mut [u8],
     notices: &mut [u32],
     buf: &mut [u8],
-) -> Going {
+) -> io::Result<Going> {
     let reader = at.reader;
     let state = at.state;
     if byte == b'\n' {
         let next = answer::line(
-            reader, state, nodes, pages, used, mappings, head, memory, notices, buf,
-        );
-        return at_start(next);
+            rt, reader, state, nodes, pages, used, mappings, head, memory, notices, buf,
+        )?;
+        return Ok(at_start(next));
     }
-    standing(reader.step(byte), state, true)
+    Ok(standing(reader.step(byte), state, true))
 }
 
 pub fn take_bytes(
+    rt: &impl Print,
     bytes: &[u8],
     at: Going,
     nodes: &mut [u32],
@@ -60,16 +64,16 @@ pub fn take_bytes(
     memory: &mut [u8],
     notices: &mut [u32],
     buf: &mut [u8],
-) -> Going {
+) -> io::Result<Going> {
     let mut at = at;
     let mut i = 0;
     while i < bytes.len() {
         at = take_byte(
-            bytes[i], at, nodes, pages, used, mappings, head, memory, notices, buf,
-        );
+            rt, bytes[i], at, nodes, pages, used, mappings, head, memory, notices, buf,
+        )?;
         i += 1;
     }
-    at
+    Ok(at)
 }
 
 // How many bytes of the input are to be taken: at its end a line that has none is ended.

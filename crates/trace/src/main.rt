@@ -10,10 +10,12 @@ mod say;
 ghost use Rattle.std.specs.Prelude.{◌≤◌};
 
 use going::Going;
-use libc::STDIN_FILENO;
+use std::io;
+use std::io::{Input, Print, Read};
 
 // Reads once and answers the lines that end there.
 fn take_some(
+    rt: &(impl Input + Print),
     at: Going,
     nodes: &mut [u32],
     pages: &mut [u32],
@@ -23,12 +25,12 @@ fn take_some(
     memory: &mut [u8],
     notices: &mut [u32],
     buf: &mut [u8],
-) -> Going {
-    let mut input = io::buffer();
-    let got = libc::read(STDIN_FILENO, &mut input);
-    let n = io::count(got, &input);
+) -> io::Result<Going> {
+    let mut input = [0u8; 4096];
+    let n = rt.reader().read(&mut input)?;
     let taken = going::to_take(n, at.reader, &mut input);
     let after = going::take_bytes(
+        rt,
         &input[..taken],
         at,
         nodes,
@@ -39,8 +41,8 @@ fn take_some(
         memory,
         notices,
         buf,
-    );
-    going::standing(after.reader, after.state, n != 0)
+    )?;
+    Ok(going::standing(after.reader, after.state, n != 0))
 }
 
 fn left(turns: u64, more: bool) -> u64
@@ -54,6 +56,7 @@ fn left(turns: u64, more: bool) -> u64
 
 // A proved loop has to end, so it counts down from a number that no input uses up.
 fn take_all(
+    rt: &(impl Input + Print),
     at: Going,
     nodes: &mut [u32],
     pages: &mut [u32],
@@ -63,16 +66,19 @@ fn take_all(
     memory: &mut [u8],
     notices: &mut [u32],
     buf: &mut [u8],
-) {
+) -> io::Result<()> {
     let mut at = at;
     let mut turns = u64::MAX;
     while 0 < turns {
-        at = take_some(at, nodes, pages, used, mappings, head, memory, notices, buf);
+        at = take_some(
+            rt, at, nodes, pages, used, mappings, head, memory, notices, buf,
+        )?;
         turns = left(turns - 1, at.more);
     }
+    Ok(())
 }
 
-fn main() {
+fn main(rt: HostRuntime) -> io::Result<()> {
     let mut nodes = [0u32; 1024];
     let mut pages = [0u32; 4096];
     let mut used = [0u8; 64];
@@ -91,6 +97,7 @@ fn main() {
     );
     let at = going::at_start(state);
     take_all(
+        &rt,
         at,
         &mut nodes,
         &mut pages,
@@ -100,5 +107,5 @@ fn main() {
         &mut memory,
         &mut notices,
         &mut buf,
-    );
+    )
 }
