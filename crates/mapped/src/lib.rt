@@ -64,12 +64,15 @@ pub fn append_mapping(
     }
 }
 
+// Mappings are numbered below it.
+const MAPPINGS: u64 = 64;
+
 fn remove_at(mappings: &mut [u32], node: u32, mapping: u64) -> Reply
     ensures { (nodes pages used head memory : List ℕ) →
         outcome result (pool_of nodes pages used mappings.new head memory) [] []
         ≡ remove_at (pool_of nodes pages used mappings.old head memory) node mapping }
 {
-    if mapping < 64 {
+    if mapping < MAPPINGS {
         mappings::remove(mappings, node, mapping as u32);
         return Reply::of(Answer::Done(0));
     }

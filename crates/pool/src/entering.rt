@@ -6,6 +6,9 @@ ghost use Rattle.pool.specs.Calls.{entered};
 
 use outcome::Refusal;
 
+// Objects are numbered below it.
+const OBJECTS: u64 = 64;
+
 // An object's node, or why the call is refused.
 #[derive(Clone, Copy)]
 pub enum Entered {
@@ -28,7 +31,7 @@ pub fn enter(
     if !sound::is_sound(nodes, pages, used, mappings, head, memory) {
         return Entered::Refused(Refusal::BadPool);
     }
-    if object < 64 {
+    if object < OBJECTS {
         let node = object as u32;
         let n = tables::node_at(nodes, node);
         if n.is_leaf() {

@@ -10,4 +10,4 @@ pub loop-a-init : goal.loop-a-init
 loop-a-init c = (search rules, refl)
 
 pub loop-a-preserved : goal.loop-a-preserved
-loop-a-preserved c = (search rules, sym (skip _ _ _ 1024 (search rules) (sym c.all_used.ensures ∙ c.if-not-all_used.false)) ∙ c.loop-a.invariant.1)
+loop-a-preserved c = (search rules, sym (skip _ _ _ 1024 (search rules) (sym c.all_used.ensures ∙ (search rules))) ∙ c.loop-a.invariant.1)
