@@ -152,9 +152,9 @@ write_loses_none L p object offset bytes =
         (each_passes (write_page L p.nodes p.mappings object offset bytes) (live_count p.mappings) (write_passes L p s object l p.mappings offset bytes) k (iter_of offset (offset + length bytes)) (start_work p []))
     by s l false = silent (λ list. refl)
 
-pub commit-range_loses_none : (L : ℕ) (p : Pool) (object offset len : ℕ) → TellsAll (λ list. commit L p list object offset len) (len / L * live_count p.mappings)
+pub commit_range_loses_none : (L : ℕ) (p : Pool) (object offset len : ℕ) → TellsAll (λ list. commit L p list object offset len) (len / L * live_count p.mappings)
 unfolding commit_at against_committing commit_through commit_range committed ranged_by
-commit-range_loses_none L p object offset len =
+commit_range_loses_none L p object offset len =
     object_told L p object (λ list n. commit_at L p list n offset len)
     (λ s l.
     inside_told p (len / L) (commit_range L p.nodes p.mappings object (offset / L) (len / L)) (λ list. commit_through L p list object offset len) (λ list. refl)

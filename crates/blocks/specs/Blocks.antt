@@ -1,5 +1,5 @@
 -- A byte range cut at the boundaries of pages of L bytes (block_range.rs 29 to 52; vm/mod.rs 29 to 47).
-use Rattle.std.specs.Prelude.{ℕ, zero, suc, ◌+◌, ◌-◌, ◌/◌, ◌%◌, Bool, List, [], ◌∷◌, eqb, leb}
+use Rattle.std.specs.Prelude.{ℕ, ◌+◌, ◌-◌, ◌/◌, ◌%◌, Bool, eqb, leb}
 use Rattle.logic.specs.Pick.{pick}
 use Rattle.blocks.specs.declared.BlockIter.{BlockIter}
 use Rattle.blocks.specs.declared.BlockRange.{BlockRange}

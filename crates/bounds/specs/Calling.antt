@@ -5,7 +5,7 @@ use Rattle.outcome.specs.Told.{told_of}
 use Rattle.outcome.specs.declared.answer.Answer.{Answer}
 use Rattle.outcome.specs.declared.answer.Answer.TheVariants.{Done, Refused}
 use Rattle.outcome.specs.declared.answer.Refusal.TheVariants.{NoRoom}
-use Rattle.outcome.specs.Outcome.{Outcome, refused}
+use Rattle.outcome.specs.Outcome.{Outcome}
 use Rattle.bounds.specs.Telling.{Added}
 
 -- a list with too little room for so many notices, left alone by the refusal

@@ -5,9 +5,7 @@ use mathlib.Core.List.{List}
 use Prim.Native.Nat.{ℕ, ◌+◌, ◌-◌, ◌/◌, ◌%◌, ◌≤◌, ◌<◌}
 use native.Mathlib.Omega.{arith}
 use lib.Dec.{eqb, leb}
-use borrow.Author.Tests.{le-ltb}
 use Rattle.logic.specs.Pick.{pick}
-use Rattle.entry.specs.Entry.{slot_of}
 use Rattle.entry.specs.declared.Slot.{Slot}
 use Rattle.entry.specs.declared.Slot.TheVariants.{Empty, Held}
 use Rattle.entry.specs.declared.PageState.{PageState}
@@ -16,7 +14,7 @@ use Rattle.node.specs.Node.{contains_of}
 use Rattle.blocks.specs.declared.BlockIter.{BlockIter}
 use Rattle.blocks.specs.Blocks.{iter_of, pages_of, count_of}
 use Rattle.tables.specs.Pool.{Pool}
-use Rattle.tables.specs.Tables.{node_of, entry_of, slot_at}
+use Rattle.tables.specs.Tables.{node_of, slot_at}
 use Rattle.outcome.specs.declared.answer.Answer.TheVariants.{Done, Refused}
 use Rattle.outcome.specs.declared.answer.Refusal.TheVariants.{OutOfRange}
 use Rattle.forecast.specs.Forecast.{absent_at, yes_of, forecast_answer, forecast}

@@ -8,8 +8,7 @@ use lib.Dec.{eqb}
 use lib.ListN.{length, get_or}
 use borrow.Author.Tests.{eq-eqb, ne_eqb, lt-ltb, le-ltb, not-true}
 use Rattle.logic.specs.Below.{all_below, sum_below, first_from}
-use Rattle.logic.specs.declared.Found.{Found}
-use Rattle.logic.specs.declared.Found.TheVariants.{At, Nothing}
+use Rattle.logic.specs.declared.Found.TheVariants.{Nothing}
 use Rattle.logic.proofs.Laws.{first_next, sum-next, and_left, and_right}
 use Rattle.frames.specs.Frames.{idle_of, one_idle, free_count}
 

@@ -1,6 +1,5 @@
 -- Laws of the loops over bytes. Assumes nothing.
-use mathlib.Core.Path.{◌≡◌, refl, sym, ◌∙◌}
-use mathlib.Core.Bool.{Bool, true, false}
+use mathlib.Core.Path.{◌≡◌, ◌∙◌}
 use mathlib.Core.List.{List}
 use Prim.Native.Nat.{ℕ, ◌+◌, ◌*◌, ◌≤◌, ◌<◌}
 use native.Mathlib.Omega.{arith}
@@ -9,7 +8,7 @@ use lib.ListN.{length, get_or, set}
 use borrow.Author.Tests.{le-leb, lt-leb}
 use Rattle.logic.specs.Below.{copied, zeroed}
 use Rattle.logic.proofs.Laws.{copied_outside}
-use Rattle.frames.specs.Frames.{pasted_at, blank_at, copied_at}
+use Rattle.frames.specs.Frames.{pasted_at, blank_at}
 
 pub zero_turn : (m : List ℕ) (a k : ℕ) {s : List ℕ} → s ≡ zeroed m a k → set s (a + k) 0 ≡ zeroed m a (k + 1)
 unfolding zeroed

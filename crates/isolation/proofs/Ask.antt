@@ -132,12 +132,12 @@ ask_at N G M L F s x w c r o a bare near p q z never (quits b e) = absurd (never
 ask_at N G M L F s x w c r o a bare near p q z never (rests b l e) =
     let b' = subst (λ (v : Place). Climbs (today L N M) s v) q b in
     let t = ask_at N G M L F s x w ((links_of N).par c) ((links_of N).start c + r) o (sym (asks_same L N M _ _ c) ∙ b'.on) b'.empty (beyond N G M L F c r w a b'.empty near)
-        (up_of (today L N M) p) (ap (up_of (today L N M)) q) z never l in
+    (up_of (today L N M) p) (ap (up_of (today L N M)) q) z never l in
     record { still = λ i j out. t.still i j (λ v. out (higher a v)); done = final_post N G M L F c r w a s x z.answer z.work e t.done }
 ask_at N G M L F s x w c r o a bare near p q z never (falls f v b l i e) =
     let b' = subst (λ (v : Place). Climbs (today L N M) s v) q b in
     let t = ask_at N G M L F s x w ((links_of N).par c) ((links_of N).start c + r) o (sym (asks_same L N M _ _ c) ∙ b'.on) b'.empty (beyond N G M L F c r w a b'.empty near)
-        (up_of (today L N M) p) (ap (up_of (today L N M)) q) (looking_of (NewPage f) v) never l in
+    (up_of (today L N M) p) (ap (up_of (today L N M)) q) (looking_of (NewPage f) v) never l in
     rw e (record { still = λ i j out. t.still i j (λ v. out (higher a v)); done = t.done })
 ask_at N G M L F s x w c r o a bare near p q z never (lands f v b l i e) =
     true_not (is_hidden N G M L F c r w a) (subst (λ (v : Place). hidden_of (node_at (today L N M) v) ≡ false) q i)
@@ -145,7 +145,7 @@ ask_at N G M L F s x w c r o a bare near p q z never (takes f u v b l t) =
     let b' = subst (λ (v : Place). Climbs (today L N M) s v) q b in
     let t' = subst (λ (g : Place). Serves (today L N M) w g (new_state f) u (kept_at v g f) z) q t in
     let h = ask_at N G M L F s x w ((links_of N).par c) ((links_of N).start c + r) o (sym (asks_same L N M _ _ c) ∙ b'.on) b'.empty (beyond N G M L F c r w a b'.empty near)
-        (up_of (today L N M) p) (ap (up_of (today L N M)) q) (looking_of (CopyOnWrite f u) v) never l in
+    (up_of (today L N M) p) (ap (up_of (today L N M)) q) (looking_of (CopyOnWrite f u) v) never l in
     own_post N G M L F c r w a x s o bare v f h.done h.still t'
 
 -- what the parent of c answers

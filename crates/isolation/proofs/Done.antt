@@ -1,16 +1,12 @@
 -- What a node's answer to its child means, for every answer. Assumes nothing.
-use mathlib.Core.Path.{◌≡◌, refl}
+use mathlib.Core.Path.{◌≡◌}
 use mathlib.Core.Bool.{Bool, true, false}
 use mathlib.Core.List.{List}
-use Prim.Native.Nat.{ℕ, ◌+◌, ◌<◌}
-use native.Mathlib.Omega.{arith}
+use Prim.Native.Nat.{ℕ, ◌<◌}
 use lib.ListN.{length, set}
-use Rattle.logic.specs.Pick.{pick}
 use Rattle.logic.specs.declared.Found.{Found}
 use Rattle.logic.specs.declared.Found.TheVariants.{At, Nothing}
 use Rattle.entry.specs.declared.PageState.{PageState}
-use Rattle.entry.specs.declared.Slot.{Slot}
-use Rattle.entry.specs.declared.Slot.TheVariants.{Empty, Held}
 use Rattle.tables.specs.Tables.{slot_at}
 use Rattle.frames.specs.Frames.{free_frame_in, cleared_at}
 use Rattle.lookup.specs.declared.CommitResult.{CommitResult}

@@ -7,7 +7,7 @@ use native.Mathlib.Omega.{arith}
 use borrow.Author.Tests.{eq-eqb}
 use Rattle.logic.specs.declared.Found.{Found}
 use Rattle.logic.specs.declared.Found.TheVariants.{At, Nothing}
-use Rattle.logic.proofs.Laws.{and_left, true_not, by_pick}
+use Rattle.logic.proofs.Laws.{true_not}
 use Rattle.entry.specs.declared.PageState.{PageState}
 use Rattle.entry.specs.declared.Slot.{Slot}
 use Rattle.entry.specs.declared.Slot.TheVariants.{Empty, Held}

@@ -1,8 +1,8 @@
 -- A leaf's own lookup: every leaf reads as before, and a frame given for writing is the leaf's own. Assumes nothing.
 use mathlib.Core.Path.{◌≡◌, refl, sym, ◌∙◌, subst}
-use mathlib.Core.Bool.{Bool, true, false}
+use mathlib.Core.Bool.{Bool, false}
 use mathlib.Core.List.{List}
-use Prim.Native.Nat.{ℕ, ◌+◌, ◌<◌}
+use Prim.Native.Nat.{ℕ, ◌<◌}
 use native.Mathlib.Omega.{arith}
 use borrow.Author.Tests.{ne_eqb}
 use Rattle.logic.specs.declared.Found.{Found}
@@ -10,9 +10,8 @@ use Rattle.logic.specs.declared.Found.TheVariants.{At, Nothing}
 use Rattle.entry.specs.declared.PageState.{PageState}
 use Rattle.entry.specs.declared.Slot.TheVariants.{Empty, Held}
 use Rattle.entry.specs.Entry.{new_state}
-use Rattle.node.specs.Node.{hidden_of, out_of}
+use Rattle.node.specs.Node.{hidden_of}
 use Rattle.tables.specs.Tables.{node_of, slot_at}
-use Rattle.frames.specs.Frames.{free_frame_in}
 use Rattle.lookup.specs.declared.CommitResult.{CommitResult}
 use Rattle.lookup.specs.declared.CommitResult.TheVariants.{Ref, Zero, CopyOnWrite, NewPage, NoMemory, Stopped}
 use Rattle.lookup.specs.Work.{Work, Looking, looking_of}
@@ -36,7 +35,7 @@ use Rattle.isolation.proofs.Done.{Fresh, Post, Served}
 use Rattle.isolation.proofs.Fresh.{fresh_step}
 use Rattle.isolation.proofs.Ask.{asks_same, ask}
 use Rattle.lookups.proofs.Spots.{held_one, held_not}
-use Rattle.logic.proofs.Laws.{true_not, by_pick}
+use Rattle.logic.proofs.Laws.{true_not}
 use Rattle.lookups.proofs.Table.{Wrote, others}
 use Rattle.lookups.proofs.Frames.{free_idle}
 use Rattle.lookups.proofs.Bytes.{cleared_same}

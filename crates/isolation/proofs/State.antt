@@ -2,7 +2,7 @@
 use mathlib.Core.Path.{◌≡◌, refl, sym, ap, ◌∙◌}
 use mathlib.Core.Bool.{true}
 use mathlib.Core.List.{List}
-use Prim.Native.Nat.{ℕ, ◌+◌, ◌*◌, ◌≤◌, ◌<◌}
+use Prim.Native.Nat.{ℕ, ◌+◌, ◌*◌, ◌<◌}
 use native.Mathlib.Omega.{arith}
 use lib.ListN.{length}
 use Rattle.logic.specs.declared.Found.{Found}
@@ -14,7 +14,7 @@ use Rattle.tables.specs.Tables.{node_of, slot_at}
 use Rattle.lookup.specs.Work.{Work}
 use Rattle.lookup.specs.Level.{with_told, kept}
 use Rattle.outcome.specs.Told.{Told}
-use Rattle.sound.specs.Facts.{Leaf, Holds, Entries}
+use Rattle.sound.specs.Facts.{Leaf, Holds}
 use Rattle.isolation.specs.Walk.{View, byte_of}
 use Rattle.isolation.specs.Private.{links_of}
 use Rattle.isolation.proofs.Pass.{Climbs, Pass, Views, views}

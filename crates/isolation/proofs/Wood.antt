@@ -1,18 +1,17 @@
 -- The table of nodes in a sound pool whose windows are whole, as a lookup relies on it. Assumes nothing.
 use mathlib.Core.Path.{◌≡◌, refl, ap}
-use mathlib.Core.Bool.{Bool, true, false, ◌&&◌, not}
+use mathlib.Core.Bool.{Bool, true, false, not}
 use mathlib.Core.List.{List}
-use Prim.Native.Nat.{ℕ, zero, suc, ◌+◌, ◌-◌, ◌≤◌, ◌<◌}
+use Prim.Native.Nat.{ℕ, suc, ◌+◌, ◌-◌, ◌<◌}
 use native.Mathlib.Omega.{arith}
 use lib.Dec.{eqb}
-use lib.ListN.{length}
 use borrow.Author.Tests.{eqb-false, ne_eqb, eq-eqb, leb-false, lt-leb, le-leb, lt-ltb, not-true}
-use Rattle.logic.proofs.Means.{equal, less, split}
+use Rattle.logic.proofs.Means.{equal, split}
 use Rattle.logic.proofs.Laws.{and_left, and_right, and_both}
 use Rattle.node.specs.declared.Node.{Node}
 use Rattle.node.specs.Node.{hidden_of, leaf_of, window_of, out_of}
 use Rattle.tables.specs.Tables.{node_of}
-use Rattle.sound.specs.Facts.{Live, Hidden, Leaf, Tree}
+use Rattle.sound.specs.Facts.{Live, Hidden, Leaf}
 use Rattle.lookups.proofs.Base.{Base, depth, deeper}
 use Rattle.isolation.specs.Private.{links_of, Windows}
 use Rattle.lookups.proofs.Sides.{Sided, sided_by}

@@ -14,15 +14,15 @@ use Rattle.node.specs.Node.{hidden_of, out_of}
 use Rattle.tables.specs.Tables.{node_of}
 use Rattle.frames.specs.Frames.{free_frame_in}
 use Rattle.lookup.specs.declared.CommitResult.{CommitResult}
-use Rattle.lookup.specs.declared.CommitResult.TheVariants.{Ref, Zero, CopyOnWrite, NewPage, NoMemory, Stopped}
+use Rattle.lookup.specs.declared.CommitResult.TheVariants.{NewPage, Stopped}
 use Rattle.lookup.specs.declared.Place.{Place}
 use Rattle.lookup.specs.declared.End.{End}
 use Rattle.lookup.specs.declared.End.TheVariants.{Has, Bare, Tired}
 use Rattle.lookup.specs.Work.{Work, Looking, looking_of}
 use Rattle.lookup.specs.Mode.{Mode, today, node_at, up_from, up, ups, halts_at}
-use Rattle.lookup.specs.Level.{kept_at, cleared, fresh_by, fresh_in, fresh, serve, pass_by, pass}
+use Rattle.lookup.specs.Level.{cleared, fresh_by, fresh_in, fresh, serve, pass_by, pass}
 use Rattle.lookup.specs.Lookup.{look_in}
-use Rattle.lookup.specs.Descent.{way, walk, top, descent, along, hidden_up}
+use Rattle.lookup.specs.Descent.{way, walk, top, descent, hidden_up}
 use Rattle.lookup.proofs.Same.{look_same}
 use Rattle.lookup.proofs.Join.{Final, descent_final}
 

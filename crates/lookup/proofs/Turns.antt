@@ -16,7 +16,7 @@ use Rattle.lookup.specs.declared.End.{End}
 use Rattle.lookup.specs.declared.End.TheVariants.{Has, Bare, Tired}
 use Rattle.lookup.specs.declared.Turn.{Turn}
 use Rattle.lookup.specs.declared.Turn.TheVariants.{Ends, Climbs}
-use Rattle.lookup.specs.Mode.{Mode, today, node_at, asks_by, up_from, up, ups, asks}
+use Rattle.lookup.specs.Mode.{Mode, today, asks_by, up_from, up, ups, asks}
 use Rattle.lookup.specs.Descent.{Way, way, further, turn_by, turn, walk_by, walk, hidden_up}
 
 pub climbs_one : {a b : Place} → Climbs a ≡ Climbs b → a ≡ b

@@ -18,7 +18,6 @@ use Rattle.lookup.specs.Work.{Work, Looking, looking_of}
 use Rattle.lookup.specs.Lookup.{look}
 use Rattle.sound.specs.Facts.{Hidden, Leaf}
 use Rattle.logic.proofs.Laws.{true_not}
-use Rattle.lookups.proofs.Spots.{held_not}
 use Rattle.lookups.proofs.Frames.{free_idle, frame_taken}
 use Rattle.lookups.proofs.Bytes.{cleared-length}
 use Rattle.lookups.proofs.Ok.{Ok}
@@ -32,7 +31,6 @@ use Rattle.lookup.specs.Descent.{lookup}
 use Rattle.lookup.proofs.Same.{look_same}
 use Rattle.lookup.proofs.Join.{Final}
 use Rattle.lookups.proofs.Walk.{asked_up}
-use Rattle.lookup.proofs.Ways.Serves.{keeps}
 use Rattle.lookups.proofs.Served.{Sounds, Fine, serves_sound}
 use Rattle.lookup.proofs.Looks.{Looks, looks}
 use Rattle.lookup.proofs.Looks.Looks.{has, zeros, short, stops, clears, fills, quits, rests, falls, lands, takes}

@@ -17,7 +17,7 @@ use Rattle.lookup.specs.declared.End.TheVariants.{Has, Bare, Tired}
 use Rattle.lookup.specs.Work.{Work, Looking, looking_of}
 use Rattle.lookup.specs.Mode.{Mode, node_at, up, ups, both_at, halts_at, asks}
 use Rattle.lookup.specs.Level.{kept_at, cleared, fresh_by, fresh_in, pass_by, pass}
-use Rattle.lookup.specs.Descent.{way, walk, top, descent, along, lookup}
+use Rattle.lookup.specs.Descent.{way, top, descent, along, lookup}
 use Rattle.lookup.proofs.Join.{descent_final}
 use Rattle.lookup.proofs.Ways.{Serves, serves, Walks, walks}
 use Rattle.lookup.proofs.Ways.Serves.{keeps, goes, moves, copies, lacks, lends}

@@ -1,5 +1,5 @@
 -- How many frames a write of a page takes: a count over the walk's levels.
-use Rattle.std.specs.Prelude.{ℕ, zero, suc, ◌+◌, ◌<◌, ◌≡◌, Bool, true, ◌&&◌, not, List, []}
+use Rattle.std.specs.Prelude.{ℕ, zero, suc, ◌+◌, ◌<◌, ◌≡◌, Bool, ◌&&◌, not, List, []}
 use Rattle.logic.specs.Pick.{pick}
 use Rattle.entry.specs.declared.PageState.{PageState}
 use Rattle.entry.specs.Entry.{split_of}

@@ -1,11 +1,10 @@
 -- The ways through a notice. Assumes nothing.
-use mathlib.Core.Path.{◌≡◌, refl, sym, ap, ◌∙◌}
+use mathlib.Core.Path.{◌≡◌, refl, sym, ◌∙◌}
 use mathlib.Core.Bool.{Bool, true, false}
 use mathlib.Core.List.{List}
-use Prim.Native.Nat.{ℕ, zero, suc, ◌+◌, ◌-◌, ◌≤◌, ◌<◌, max, min}
+use Prim.Native.Nat.{ℕ, suc, ◌+◌, ◌-◌, ◌≤◌, ◌<◌, max, min}
 use native.Mathlib.Omega.{arith}
 use native.Mathlib.Numerals.{add-one}
-use lib.Dec.{eqb, ltb}
 use borrow.Author.Tests.{eq-eqb, ne_eqb, lt-ltb, le-ltb}
 use Rattle.logic.proofs.Means.{equal, split}
 use Rattle.node.specs.declared.Node.{Node}
@@ -17,7 +16,7 @@ use Rattle.outcome.specs.declared.notice.Notice.{Notice}
 use Rattle.outcome.specs.Told.{Told, notice_by, put_notice}
 use Rattle.notices.specs.declared.Due.{Due}
 use Rattle.notices.specs.declared.Due.TheVariants.{Notice as Tell, Nothing}
-use Rattle.notices.specs.Notices.{overlap_of, tell_due, tell_place, tell_object, low_in, high_in, child_of, range_change}
+use Rattle.notices.specs.Notices.{overlap_of, tell_place, tell_object, child_of, range_change}
 
 module _ (m : Mapping) (lo hi op : ℕ) where
   pub overlap_free : m.number ≡ 0 → Nothing ≡ overlap_of m lo hi op

@@ -1,5 +1,5 @@
 -- The call peek on a pool of pages of L bytes: one page's bytes as a read would give them, and nothing moved.
-use Rattle.std.specs.Prelude.{ℕ, ◌+◌, ◌*◌, Bool, false, ◌&&◌, List, [], eqb, leb, length, get_or, take, drop}
+use Rattle.std.specs.Prelude.{ℕ, ◌+◌, ◌*◌, Bool, ◌&&◌, List, [], eqb, leb, length, get_or, take, drop}
 use Rattle.logic.specs.Pick.{pick}
 use Rattle.logic.specs.Below.{all_below}
 use Rattle.tables.specs.Pool.{Pool}

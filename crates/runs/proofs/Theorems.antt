@@ -106,8 +106,8 @@ two_runs L A B p q I J o u here there same equal one two alike =
       arrays = f.ends ∙ ap (ending (A o)) alike ∙ ap (λ (a : List ℕ). ending a ds) equal ∙ sym g.ends;
     }
 
-pub two-fresh_runs : TwoFreshRuns
-two-fresh_runs L p q lent loan past other o u here there equal one two alike =
+pub two_fresh_runs : TwoFreshRuns
+two_fresh_runs L p q lent loan past other o u here there equal one two alike =
     two_runs L (arrays_of L p past) (arrays_of L q other) (pool_after L p past) (pool_after L q other) (run_isolated L p lent past)
     (run_isolated L q loan other) o u
     (run_live L p lent past o ∙ here) (run_live L q loan other u ∙ there)

@@ -12,7 +12,7 @@ use Rattle.tables.specs.Tables.{node_of}
 use Rattle.outcome.specs.Told.{Told, told_of}
 use Rattle.lookup.specs.declared.Committed.{Committed}
 use Rattle.lookup.specs.Work.{Work}
-use Rattle.lookup.specs.Commit.{Committing, commit_leaf}
+use Rattle.lookup.specs.Commit.{commit_leaf}
 use Rattle.sound.specs.Facts.{Leaf}
 use Rattle.soundness.proofs.Soundness.{facts_sound}
 use Rattle.lookup.specs.declared.End.{End}

@@ -5,23 +5,20 @@ use mathlib.Core.List.{List}
 use Prim.Native.Nat.{ℕ, zero, suc, ◌+◌, ◌<◌}
 use lib.ListN.{length}
 use Rattle.entry.specs.declared.PageState.{PageState}
-use Rattle.node.specs.Node.{hidden_of}
 use Rattle.tables.specs.Pool.{Pool}
 use Rattle.tables.specs.Tables.{node_of}
 use Rattle.outcome.specs.Told.{Told}
-use Rattle.lookup.specs.declared.CommitResult.TheVariants.{Ref, Zero}
 use Rattle.lookup.specs.declared.Place.{Place}
 use Rattle.lookup.specs.declared.End.{End}
 use Rattle.lookup.specs.declared.End.TheVariants.{Has, Bare, Tired}
-use Rattle.lookup.specs.Work.{work_of, Looking, looking_of}
+use Rattle.lookup.specs.Work.{work_of, Looking}
 use Rattle.lookup.specs.Mode.{Mode, today, place_of, up}
 use Rattle.lookup.specs.Lookup.{look}
 use Rattle.lookup.specs.Descent.{Way, way, walk, along}
 use Rattle.lookup.specs.Commit.{committed_by, commit_leaf}
 use Rattle.lookup.proofs.Same.{look_same}
-use Rattle.lookup.proofs.Join.{descent_final}
 use Rattle.lookup.proofs.Ways.{Walks, walks}
-use Rattle.lookup.proofs.Ways.Walks.{stands, stays, tires, climbs}
+use Rattle.lookup.proofs.Ways.Walks.{stands, climbs}
 use Rattle.sound.specs.Facts.{Leaf, Sound}
 use Rattle.lookups.proofs.Chain.{sound-short, ends_by_65}
 use Rattle.lookups.proofs.Leaves.{leaf_seen}

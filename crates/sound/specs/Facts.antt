@@ -1,13 +1,12 @@
 -- The sound pool, sentence by sentence of document 01, with what this layout of the lent tables adds. A reader checks this page against 01;
 -- crate `soundness` proves that the test `sound` holds exactly if these facts do.
-use Rattle.std.specs.Prelude.{◌≡◌, true, List, ◌⊎◌, ℕ, zero, suc, ◌+◌, ◌-◌, ◌*◌, ◌≤◌, ◌<◌, length, get_or}
+use Rattle.std.specs.Prelude.{◌≡◌, true, List, ◌⊎◌, ℕ, ◌+◌, ◌-◌, ◌*◌, ◌≤◌, ◌<◌, length, get_or}
 use Rattle.logic.specs.Below.{sum_below}
 use Rattle.entry.specs.declared.PageState.{PageState}
 use Rattle.entry.specs.declared.PageStateTag.TheVariants.{Owned}
 use Rattle.entry.specs.declared.Slot.{Slot}
 use Rattle.entry.specs.declared.Slot.TheVariants.{Empty, Held}
 use Rattle.entry.specs.Entry.{entry_word}
-use Rattle.node.specs.declared.Node.{Node}
 use Rattle.node.specs.Node.{free_node, leaf_of}
 use Rattle.tables.specs.Pool.{Pool}
 use Rattle.tables.specs.Tables.{node_of, entry_of, slot_at, mapping_of, mapping_by}

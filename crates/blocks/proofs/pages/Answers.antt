@@ -1,6 +1,5 @@
 use borrow.Author.Tests.{eq-eqb, ne_eqb}
 use Rattle.blocks.specs.Blocks.{pages_of}
-use borrow.Author.Rules.{rules}
 use Rattle.blocks.proofs.pages.Goals as goal
 
 pub returns-then-size-eq0 : goal.returns-then-size-eq0

@@ -1,7 +1,6 @@
 use mathlib.Core.Path.{◌∙◌}
 use native.Mathlib.Omega.{arith}
 use Rattle.ranges.proofs.Laws.{commit-refused, commit_goes}
-use borrow.Author.Rules.{rules}
 use Rattle.call_commit.proofs.commit_at.Goals as goal
 
 pub returns-in-Why : goal.returns-in-Why

@@ -1,10 +1,5 @@
-use mathlib.Core.Path.{◌≡◌, refl, ◌∙◌}
-use Prim.Native.Nat.{◌≤◌, ◌+◌}
+use mathlib.Core.Path.{refl, ◌∙◌}
 use native.Mathlib.Omega.{arith}
-use lib.ListN.{length}
-use Rattle.outcome.specs.Told.{told_of}
-use Rattle.lookup.specs.Work.{work_of}
-use Rattle.page.specs.Each.{each}
 use Rattle.page.specs.Pages.{commit_one}
 use Rattle.ranges.specs.Ranges.{commit_range}
 use Rattle.ranges.proofs.Laws.{each_end, each_stop, each_next}

@@ -1,14 +1,11 @@
-use mathlib.Core.Path.{◌≡◌, refl, ◌∙◌}
+use mathlib.Core.Path.{◌≡◌}
 use Prim.Native.Nat.{◌≤◌, ◌+◌}
-use native.Mathlib.Omega.{arith}
 use lib.ListN.{length}
 use Rattle.outcome.specs.Told.{told_of}
 use Rattle.lookup.specs.Work.{work_of}
 use Rattle.page.specs.Each.{each}
 use Rattle.page.specs.Pages.{commit_one}
 use Rattle.ranges.specs.Ranges.{commit_range}
-use Rattle.ranges.proofs.Laws.{each_end, each_stop, each_next}
-use borrow.Author.Rules.{rules}
 use Rattle.call_commit.proofs.commit_range.Given as goal
 
 abbrev pub invariant-loop-left : goal.invariant-loop-left

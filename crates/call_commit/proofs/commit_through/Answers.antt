@@ -1,5 +1,4 @@
 use Rattle.ranges.proofs.Laws.{commit_done}
-use borrow.Author.Rules.{rules}
 use Rattle.call_commit.proofs.commit_through.Goals as goal
 
 pub returns : goal.returns

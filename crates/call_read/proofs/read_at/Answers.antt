@@ -1,6 +1,5 @@
 use native.Mathlib.Omega.{arith}
 use Rattle.ranges.proofs.Laws.{read-refused, read_done}
-use borrow.Author.Rules.{rules}
 use Rattle.call_read.proofs.read_at.Goals as goal
 
 pub returns-in-Why : goal.returns-in-Why

@@ -1,13 +1,10 @@
-use mathlib.Core.Path.{◌≡◌, refl, ◌∙◌}
+use mathlib.Core.Path.{◌≡◌}
 use Prim.Native.Nat.{◌≤◌}
-use native.Mathlib.Omega.{arith}
 use lib.ListN.{length}
 use Rattle.page.specs.Each.{each}
 use Rattle.page.specs.Pages.{read_of, read_page}
 use Rattle.ranges.specs.Ranges.{read_range}
-use Rattle.ranges.proofs.Laws.{each_end, each_stop, each_next}
 use Rattle.node.specs.Node.{byte_limit}
-use borrow.Author.Rules.{rules}
 use Rattle.call_read.proofs.read_range.Given as goal
 
 abbrev pub invariant-loop-left : goal.invariant-loop-left

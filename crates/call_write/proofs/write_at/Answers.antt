@@ -1,7 +1,6 @@
 use mathlib.Core.Path.{◌∙◌}
 use native.Mathlib.Omega.{arith}
 use Rattle.ranges.proofs.Laws.{write-refused, write_goes}
-use borrow.Author.Rules.{rules}
 use Rattle.call_write.proofs.write_at.Goals as goal
 
 pub returns-in-Why : goal.returns-in-Why

@@ -1,14 +1,8 @@
-use mathlib.Core.Path.{◌≡◌, refl, ◌∙◌}
-use Prim.Native.Nat.{◌≤◌}
+use mathlib.Core.Path.{refl, ◌∙◌}
 use native.Mathlib.Omega.{arith}
-use lib.ListN.{length}
-use Rattle.outcome.specs.Told.{told_of}
-use Rattle.lookup.specs.Work.{work_of}
-use Rattle.page.specs.Each.{each}
 use Rattle.page.specs.Pages.{write_page}
 use Rattle.ranges.specs.Ranges.{write_range}
 use Rattle.ranges.proofs.Laws.{each_end, each_stop, each_next}
-use Rattle.node.specs.Node.{byte_limit}
 use borrow.Author.Rules.{rules}
 use Rattle.call_write.proofs.write_range.Goals as goal
 
@@ -56,6 +50,6 @@ loop-left-preserved c =
 
 pub returns : goal.returns
 returns c = record {
-      count_after = each_end (write_page 4096 _ _ _ _ _) c.loop-left.it _ (omega (arith, c.loop-left-test.false)) ∙ c.loop-left.invariant.6;
-      fits = c.loop-left.invariant.0;
-    }
+  count_after = each_end (write_page 4096 _ _ _ _ _) c.loop-left.it _ (omega (arith, c.loop-left-test.false)) ∙ c.loop-left.invariant.6;
+  fits = c.loop-left.invariant.0;
+}

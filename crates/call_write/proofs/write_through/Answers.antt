@@ -1,5 +1,4 @@
 use Rattle.ranges.proofs.Laws.{write_done}
-use borrow.Author.Rules.{rules}
 use Rattle.call_write.proofs.write_through.Goals as goal
 
 pub returns : goal.returns

@@ -1,5 +1,4 @@
 use Rattle.child.proofs.Laws.{against_args, against_state, against-range, against-none}
-use borrow.Author.Rules.{rules}
 use Rattle.child.proofs.against_child.Goals as goal
 
 pub returns-then-contains : goal.returns-then-contains

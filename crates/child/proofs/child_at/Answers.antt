@@ -1,6 +1,5 @@
 use native.Mathlib.Omega.{arith}
 use Rattle.child.proofs.Laws.{range_inside, child_refused, child_done}
-use borrow.Author.Rules.{rules}
 use Rattle.child.proofs.child_at.Goals as goal
 
 pub returns-in-Why : goal.returns-in-Why

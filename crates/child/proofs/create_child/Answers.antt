@@ -1,5 +1,4 @@
 use Rattle.pool.proofs.Laws.{object_step, object_refused}
-use borrow.Author.Rules.{rules}
 use Rattle.child.proofs.create_child.Goals as goal
 
 pub child_at-requires : goal.child_at-requires

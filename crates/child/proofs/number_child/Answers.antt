@@ -1,5 +1,4 @@
 use Rattle.child.proofs.Laws.{free_small, number_done, number_full, number_owners}
-use borrow.Author.Rules.{rules}
 use Rattle.child.proofs.number_child.Goals as goal
 
 pub with_child-requires : goal.with_child-requires

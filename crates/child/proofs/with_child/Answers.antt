@@ -1,15 +1,13 @@
 use Rattle.child.proofs.Laws.{next_small, child_born, child_room, child_single}
-use borrow.Author.Rules.{rules}
 use Rattle.child.proofs.with_child.Goals as goal
 
 pub bear-requires : goal.bear-requires
-bear-requires c =
-    (
-      c.requires.0,
-      c.requires.1,
-      next_small _ _ c.requires.1 c.free_node_from-found.ensures c.in-At.is,
-      c.requires.2,
-    )
+bear-requires c = (
+  c.requires.0,
+  c.requires.1,
+  next_small _ _ c.requires.1 c.free_node_from-found.ensures c.in-At.is,
+  c.requires.2,
+)
 
 pub returns-then-has_room : goal.returns-then-has_room
 returns-then-has_room c =

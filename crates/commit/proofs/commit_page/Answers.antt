@@ -1,5 +1,4 @@
 use Rattle.pool.proofs.Laws.{object_step, object_refused}
-use borrow.Author.Rules.{rules}
 use Rattle.commit.proofs.commit_page.Goals as goal
 
 pub returns-in-At : goal.returns-in-At

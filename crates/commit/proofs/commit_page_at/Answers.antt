@@ -1,6 +1,5 @@
 use Rattle.lookup.proofs.Asked.{asked_low, asked_leaf}
 use Rattle.commit.proofs.Laws.{commit-refused, commit_done}
-use borrow.Author.Rules.{rules}
 use Rattle.commit.proofs.commit_page_at.Goals as goal
 
 pub returns-in-Why : goal.returns-in-Why

@@ -1,4 +1,3 @@
-use borrow.Author.Rules.{rules}
 use Rattle.commit.proofs.committed_answer.Goals as goal
 
 pub returns-in-Frame : goal.returns-in-Frame

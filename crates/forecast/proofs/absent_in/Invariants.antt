@@ -1,10 +1,7 @@
-use mathlib.Core.Path.{◌≡◌, refl}
+use mathlib.Core.Path.{◌≡◌}
 use Prim.Native.Nat.{◌≤◌, ◌-◌}
-use native.Mathlib.Omega.{arith}
 use Rattle.logic.specs.Below.{sum_below}
-use Rattle.logic.proofs.Laws.{sum-next}
-use Rattle.forecast.specs.Forecast.{absent_from, absent_in}
-use borrow.Author.Rules.{rules}
+use Rattle.forecast.specs.Forecast.{absent_from}
 use Rattle.forecast.proofs.absent_in.Given as goal
 
 abbrev pub invariant-loop-k : goal.invariant-loop-k

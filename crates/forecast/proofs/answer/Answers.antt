@@ -1,7 +1,5 @@
 use native.Mathlib.Omega.{arith}
-use borrow.Author.Tests.{not-true, not-false}
 use Rattle.forecast.proofs.Laws.{out_of_range, in_range}
-use borrow.Author.Rules.{rules}
 use Rattle.forecast.proofs.answer.Goals as goal
 
 pub returns-then-not-contains : goal.returns-then-not-contains

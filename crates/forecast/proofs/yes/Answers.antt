@@ -2,7 +2,6 @@ use native.Mathlib.Omega.{arith}
 use borrow.Author.Tests.{le-leb, lt-leb}
 use Rattle.forecast.specs.Forecast.{yes_of}
 use Rattle.forecast.proofs.Laws.{count_small}
-use borrow.Author.Rules.{rules}
 use Rattle.forecast.proofs.yes.Goals as goal
 
 pub absent_in-needed-requires : goal.absent_in-needed-requires

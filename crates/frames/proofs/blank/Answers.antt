@@ -1,7 +1,6 @@
 use mathlib.Core.Path.{◌≡◌, refl}
-use Prim.Native.Nat.{◌≤◌, ◌-◌}
 use native.Mathlib.Omega.{arith}
-use lib.ListN.{length, length-set}
+use lib.ListN.{length-set}
 use Rattle.logic.specs.Below.{zeroed}
 use Rattle.frames.proofs.Laws.{zero_turn, blank_all, blank_past}
 use borrow.Author.Rules.{rules}

@@ -1,10 +1,7 @@
-use mathlib.Core.Path.{◌≡◌, refl}
+use mathlib.Core.Path.{◌≡◌}
 use Prim.Native.Nat.{◌≤◌, ◌-◌}
-use native.Mathlib.Omega.{arith}
-use lib.ListN.{length, length-set}
+use lib.ListN.{length}
 use Rattle.logic.specs.Below.{zeroed}
-use Rattle.frames.proofs.Laws.{zero_turn, blank_all, blank_past}
-use borrow.Author.Rules.{rules}
 use Rattle.frames.proofs.blank.Given as goal
 
 abbrev pub invariant-loop-k : goal.invariant-loop-k

@@ -1,5 +1,4 @@
 use Rattle.frames.specs.Frames.{cleared_at, blank_at}
-use borrow.Author.Rules.{rules}
 use Rattle.frames.proofs.clear_frame.Goals as goal
 
 pub returns : goal.returns

@@ -1,7 +1,6 @@
 use mathlib.Core.Path.{◌≡◌, refl}
-use Prim.Native.Nat.{◌≤◌, ◌-◌}
 use native.Mathlib.Omega.{arith}
-use lib.ListN.{length, length-set}
+use lib.ListN.{length-set}
 use Rattle.logic.specs.Below.{copied}
 use Rattle.frames.specs.Frames.{copied_at}
 use Rattle.frames.proofs.Laws.{copy_turn, paste_all, paste_short, paste_past}

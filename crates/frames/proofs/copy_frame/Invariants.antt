@@ -1,11 +1,7 @@
-use mathlib.Core.Path.{◌≡◌, refl}
+use mathlib.Core.Path.{◌≡◌}
 use Prim.Native.Nat.{◌≤◌, ◌-◌}
-use native.Mathlib.Omega.{arith}
-use lib.ListN.{length, length-set}
+use lib.ListN.{length}
 use Rattle.logic.specs.Below.{copied}
-use Rattle.frames.specs.Frames.{copied_at}
-use Rattle.frames.proofs.Laws.{copy_turn, paste_all, paste_short, paste_past}
-use borrow.Author.Rules.{rules}
 use Rattle.frames.proofs.copy_frame.Given as goal
 
 abbrev pub invariant-loop-k : goal.invariant-loop-k

@@ -1,9 +1,7 @@
-use mathlib.Core.Path.{◌≡◌, refl, sym, ◌∙◌}
-use Prim.Native.Nat.{◌-◌, ◌≤◌}
+use mathlib.Core.Path.{◌≡◌, refl, ◌∙◌}
 use native.Mathlib.Omega.{arith}
 use Rattle.logic.specs.Below.{sum_below}
 use Rattle.logic.proofs.Laws.{sum-next}
-use Rattle.frames.specs.Frames.{one_idle}
 use Rattle.frames.proofs.Flags.{one_zero, one-mark, sum_kept, count_past}
 use borrow.Author.Rules.{rules}
 use Rattle.frames.proofs.free_count.Goals as goal

@@ -1,11 +1,7 @@
-use mathlib.Core.Path.{◌≡◌, refl, sym, ◌∙◌}
+use mathlib.Core.Path.{◌≡◌}
 use Prim.Native.Nat.{◌-◌, ◌≤◌}
-use native.Mathlib.Omega.{arith}
 use Rattle.logic.specs.Below.{sum_below}
-use Rattle.logic.proofs.Laws.{sum-next}
 use Rattle.frames.specs.Frames.{one_idle}
-use Rattle.frames.proofs.Flags.{one_zero, one-mark, sum_kept, count_past}
-use borrow.Author.Rules.{rules}
 use Rattle.frames.proofs.free_count.Given as goal
 
 abbrev pub invariant-loop-i : goal.invariant-loop-i

@@ -1,6 +1,5 @@
 use mathlib.Core.Path.{◌∙◌}
 use Rattle.frames.specs.Frames.{free_frame_in}
-use borrow.Author.Rules.{rules}
 use Rattle.frames.proofs.free_frame.Goals as goal
 
 pub returns : goal.returns

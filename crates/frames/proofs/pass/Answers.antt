@@ -1,7 +1,4 @@
-use mathlib.Core.Path.{◌≡◌, refl, sym, ◌∙◌}
-use Prim.Native.Nat.{◌-◌, ◌≤◌}
-use Rattle.logic.specs.Below.{first_from}
-use Rattle.frames.specs.Frames.{idle_of}
+use mathlib.Core.Path.{refl, sym, ◌∙◌}
 use Rattle.frames.proofs.Flags.{skip}
 use borrow.Author.Rules.{rules}
 use Rattle.frames.proofs.pass.Goals as goal

@@ -1,10 +1,7 @@
-use mathlib.Core.Path.{◌≡◌, refl, sym, ◌∙◌}
+use mathlib.Core.Path.{◌≡◌}
 use Prim.Native.Nat.{◌-◌, ◌≤◌}
 use Rattle.logic.specs.Below.{first_from}
 use Rattle.frames.specs.Frames.{idle_of}
-use Rattle.frames.proofs.Flags.{skip}
-use borrow.Author.Tests.{not-false}
-use borrow.Author.Rules.{rules}
 use Rattle.frames.proofs.pass.Given as goal
 
 abbrev pub invariant-loop-a : goal.invariant-loop-a

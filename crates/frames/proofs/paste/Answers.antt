@@ -1,6 +1,5 @@
 use mathlib.Core.Path.{refl, sym}
 use Rattle.frames.proofs.Laws.{paste_all, paste_short, paste_past}
-use borrow.Author.Rules.{rules}
 use Rattle.frames.proofs.paste.Goals as goal
 
 pub returns-then-n-eq4096 : goal.returns-then-n-eq4096

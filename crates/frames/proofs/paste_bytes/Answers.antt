@@ -1,7 +1,6 @@
 use mathlib.Core.Path.{◌≡◌, refl}
-use Prim.Native.Nat.{◌≤◌, ◌-◌}
 use native.Mathlib.Omega.{arith}
-use lib.ListN.{length, length-set}
+use lib.ListN.{length-set}
 use Rattle.logic.specs.Below.{copied}
 use Rattle.frames.proofs.Laws.{paste_turn}
 use borrow.Author.Rules.{rules}

@@ -1,10 +1,7 @@
-use mathlib.Core.Path.{◌≡◌, refl}
+use mathlib.Core.Path.{◌≡◌}
 use Prim.Native.Nat.{◌≤◌, ◌-◌}
-use native.Mathlib.Omega.{arith}
-use lib.ListN.{length, length-set}
+use lib.ListN.{length}
 use Rattle.logic.specs.Below.{copied}
-use Rattle.frames.proofs.Laws.{paste_turn}
-use borrow.Author.Rules.{rules}
 use Rattle.frames.proofs.paste_bytes.Given as goal
 
 abbrev pub invariant-loop-k : goal.invariant-loop-k

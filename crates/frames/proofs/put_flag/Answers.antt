@@ -1,6 +1,5 @@
 use mathlib.Core.Path.{sym}
 use lib.Seq.{set_out}
-use borrow.Author.Rules.{rules}
 use Rattle.frames.proofs.put_flag.Goals as goal
 
 pub returns-else-f-used : goal.returns-else-f-used

@@ -1,11 +1,7 @@
-use mathlib.Core.Path.{◌≡◌, refl, sym, ◌∙◌}
-use Prim.Native.Nat.{◌-◌, ◌≤◌}
-use native.Mathlib.Omega.{arith}
+use mathlib.Core.Path.{◌≡◌}
+use Prim.Native.Nat.{◌-◌}
 use Rattle.logic.specs.Below.{first_from}
-use Rattle.logic.proofs.Laws.{first_found, first_next}
 use Rattle.frames.specs.Frames.{idle_of}
-use Rattle.frames.proofs.Flags.{idle_zero, idle_mark, none_past}
-use borrow.Author.Rules.{rules}
 use Rattle.frames.proofs.scan.Given as goal
 
 abbrev pub invariant-loop-i : goal.invariant-loop-i

@@ -1,6 +1,5 @@
 use Rattle.outcome.proofs.Laws.{gives_frameless}
 use Rattle.commit.proofs.Laws.{commit_frameless}
-use borrow.Author.Rules.{rules}
 use Rattle.goramul_contents.proofs.goramul_commit_page.Goals as goal
 
 pub returns : goal.returns

@@ -1,6 +1,5 @@
 use Rattle.outcome.proofs.Laws.{gives_quiet}
 use Rattle.forecast.proofs.Laws.{forecast-quiet}
-use borrow.Author.Rules.{rules}
 use Rattle.goramul_contents.proofs.goramul_forecast.Goals as goal
 
 pub returns : goal.returns

@@ -1,6 +1,5 @@
 use Rattle.outcome.proofs.Laws.{gives_quiet}
 use Rattle.mapped.proofs.Laws.{remove_quiet}
-use borrow.Author.Rules.{rules}
 use Rattle.goramul_objects.proofs.goramul_remove_mapping.Goals as goal
 
 pub returns : goal.returns

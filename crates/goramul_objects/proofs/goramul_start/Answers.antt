@@ -1,6 +1,5 @@
 use Rattle.outcome.proofs.Laws.{gives_quiet}
 use Rattle.pool.proofs.Laws.{start-quiet}
-use borrow.Author.Rules.{rules}
 use Rattle.goramul_objects.proofs.goramul_start.Goals as goal
 
 pub returns : goal.returns

@@ -1,6 +1,5 @@
 use native.Mathlib.Omega.{arith}
 use Rattle.mapped.proofs.Laws.{append_bad, append_full, append_done}
-use borrow.Author.Rules.{rules}
 use Rattle.mapped.proofs.append_at.Goals as goal
 
 pub overflow_cast-first : goal.overflow_cast-first

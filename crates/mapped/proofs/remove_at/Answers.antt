@@ -1,6 +1,5 @@
 use native.Mathlib.Omega.{arith}
 use Rattle.mapped.proofs.Laws.{remove_done, remove_none}
-use borrow.Author.Rules.{rules}
 use Rattle.mapped.proofs.remove_at.Goals as goal
 
 pub returns-then-mapping-lt-MAPPINGS : goal.returns-then-mapping-lt-MAPPINGS

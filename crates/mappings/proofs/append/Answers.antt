@@ -1,6 +1,5 @@
 use native.Mathlib.Omega.{arith}
 use Rattle.mappings.proofs.Laws.{number_small, append_full, append-none, append_at_lem}
-use borrow.Author.Rules.{rules}
 use Rattle.mappings.proofs.append.Goals as goal
 
 pub returns-in-Nothing : goal.returns-in-Nothing

@@ -1,10 +1,7 @@
-use mathlib.Core.Path.{◌≡◌, refl}
-use Prim.Native.Nat.{◌≤◌, ◌-◌, ◌+◌, ◌*◌}
-use native.Mathlib.Omega.{arith}
+use mathlib.Core.Path.{◌≡◌}
+use Prim.Native.Nat.{◌≤◌, ◌-◌, ◌+◌}
 use lib.ListN.{length}
 use Rattle.logic.specs.Below.{copied}
-use Rattle.mappings.proofs.Laws.{up_turn, closed_by}
-use borrow.Author.Rules.{rules}
 use Rattle.mappings.proofs.close_up.Given as goal
 
 abbrev pub invariant-loop-k : goal.invariant-loop-k

@@ -1,8 +1,6 @@
-use mathlib.Core.Path.{◌≡◌, refl, sym, ◌∙◌}
-use Prim.Native.Nat.{◌≤◌, ◌-◌}
-use Rattle.logic.specs.Below.{first_from}
+use mathlib.Core.Path.{refl, sym, ◌∙◌}
 use Rattle.logic.proofs.Laws.{first_found, first_next, first-none}
-use Rattle.mappings.specs.Mappings.{free_number, unused}
+use Rattle.mappings.specs.Mappings.{free_number}
 use borrow.Author.Rules.{rules}
 use Rattle.mappings.proofs.free_number.Goals as goal
 

@@ -1,9 +1,7 @@
-use mathlib.Core.Path.{◌≡◌, refl, sym, ◌∙◌}
+use mathlib.Core.Path.{◌≡◌}
 use Prim.Native.Nat.{◌≤◌, ◌-◌}
 use Rattle.logic.specs.Below.{first_from}
-use Rattle.logic.proofs.Laws.{first_found, first_next, first-none}
 use Rattle.mappings.specs.Mappings.{free_number, unused}
-use borrow.Author.Rules.{rules}
 use Rattle.mappings.proofs.free_number.Given as goal
 
 abbrev pub invariant-loop-i : goal.invariant-loop-i

@@ -1,9 +1,7 @@
-use mathlib.Core.Path.{◌≡◌, refl, sym, ◌∙◌}
-use Prim.Native.Nat.{◌≤◌, ◌-◌}
+use mathlib.Core.Path.{refl, sym, ◌∙◌}
 use borrow.Author.Tests.{eq-eqb, ne_eqb}
-use Rattle.logic.specs.Below.{first_from}
 use Rattle.logic.proofs.Laws.{first_found, first_next, first-none}
-use Rattle.mappings.specs.Mappings.{free_place, is_free_at}
+use Rattle.mappings.specs.Mappings.{free_place}
 use Rattle.mappings.proofs.Laws.{free_by}
 use borrow.Author.Rules.{rules}
 use Rattle.mappings.proofs.free_place.Goals as goal

@@ -1,5 +1,4 @@
 use Rattle.mappings.proofs.Laws.{at_by}
-use borrow.Author.Rules.{rules}
 use Rattle.mappings.proofs.is_at.Goals as goal
 
 pub returns : goal.returns

@@ -1,9 +1,8 @@
 use mathlib.Core.Path.{◌≡◌, refl}
-use Prim.Native.Nat.{◌≤◌, ◌-◌}
 use native.Mathlib.Omega.{arith}
 use Rattle.logic.specs.Below.{all_below}
 use Rattle.logic.proofs.Laws.{all_next}
-use Rattle.mappings.specs.Mappings.{not_at, unused}
+use Rattle.mappings.specs.Mappings.{unused}
 use Rattle.mappings.proofs.Laws.{not_by}
 use borrow.Author.Rules.{rules}
 use Rattle.mappings.proofs.is_unused.Goals as goal

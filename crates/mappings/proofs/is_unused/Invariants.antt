@@ -1,11 +1,7 @@
-use mathlib.Core.Path.{◌≡◌, refl}
+use mathlib.Core.Path.{◌≡◌}
 use Prim.Native.Nat.{◌≤◌, ◌-◌}
-use native.Mathlib.Omega.{arith}
 use Rattle.logic.specs.Below.{all_below}
-use Rattle.logic.proofs.Laws.{all_next}
-use Rattle.mappings.specs.Mappings.{not_at, unused}
-use Rattle.mappings.proofs.Laws.{not_by}
-use borrow.Author.Rules.{rules}
+use Rattle.mappings.specs.Mappings.{not_at}
 use Rattle.mappings.proofs.is_unused.Given as goal
 
 abbrev pub invariant-loop-i : goal.invariant-loop-i

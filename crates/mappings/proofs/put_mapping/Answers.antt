@@ -1,5 +1,4 @@
 use Rattle.mappings.specs.Mappings.{with_mapping}
-use borrow.Author.Rules.{rules}
 use Rattle.mappings.proofs.put_mapping.Goals as goal
 
 pub returns : goal.returns

@@ -1,5 +1,4 @@
 use Rattle.mappings.proofs.Laws.{place_small, removed-none, removed_at}
-use borrow.Author.Rules.{rules}
 use Rattle.mappings.proofs.remove.Goals as goal
 
 pub close_up-requires : goal.close_up-requires

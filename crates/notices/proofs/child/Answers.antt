@@ -1,6 +1,5 @@
 use borrow.Author.Tests.{eq-eqb, ne_eqb}
 use Rattle.notices.specs.Notices.{child_of}
-use borrow.Author.Rules.{rules}
 use Rattle.notices.proofs.child.Goals as goal
 
 pub returns-then-link-eq-NONE : goal.returns-then-link-eq-NONE

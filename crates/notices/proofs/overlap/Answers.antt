@@ -1,5 +1,4 @@
 use Rattle.notices.proofs.Laws.{overlap_free, overlap_some, overlap_none}
-use borrow.Author.Rules.{rules}
 use Rattle.notices.proofs.overlap.Goals as goal
 
 pub returns-then-m-eq0 : goal.returns-then-m-eq0

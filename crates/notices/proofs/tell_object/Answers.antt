@@ -1,8 +1,5 @@
 use mathlib.Core.Path.{◌≡◌, refl, ◌∙◌}
-use Prim.Native.Nat.{◌≤◌, ◌-◌}
 use native.Mathlib.Omega.{arith}
-use lib.ListN.{length}
-use Rattle.outcome.specs.Told.{told_of}
 use Rattle.notices.specs.Notices.{tell_object}
 use Rattle.notices.proofs.Laws.{object_next, object_end}
 use borrow.Author.Rules.{rules}

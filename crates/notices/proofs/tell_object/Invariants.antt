@@ -1,11 +1,8 @@
-use mathlib.Core.Path.{◌≡◌, refl, ◌∙◌}
+use mathlib.Core.Path.{◌≡◌}
 use Prim.Native.Nat.{◌≤◌, ◌-◌}
-use native.Mathlib.Omega.{arith}
 use lib.ListN.{length}
 use Rattle.outcome.specs.Told.{told_of}
 use Rattle.notices.specs.Notices.{tell_object}
-use Rattle.notices.proofs.Laws.{object_next, object_end}
-use borrow.Author.Rules.{rules}
 use Rattle.notices.proofs.tell_object.Given as goal
 
 abbrev pub invariant-loop-i : goal.invariant-loop-i

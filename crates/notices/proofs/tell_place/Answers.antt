@@ -1,5 +1,4 @@
 use Rattle.notices.proofs.Laws.{place_told, place-quiet, place_other}
-use borrow.Author.Rules.{rules}
 use Rattle.notices.proofs.tell_place.Goals as goal
 
 pub returns-in-Notice : goal.returns-in-Notice

@@ -1,7 +1,5 @@
-use borrow.Author.Tests.{not-true, not-false}
 use Rattle.pool.proofs.Laws.{object_step, object_refused}
 use Rattle.peek.proofs.Laws.{find_bad, find_good}
-use borrow.Author.Rules.{rules}
 use Rattle.peek.proofs.find.Goals as goal
 
 pub returns-then-not-is_zero_page : goal.returns-then-not-is_zero_page

@@ -1,6 +1,5 @@
 use mathlib.Core.Path.{refl}
 use Rattle.peek.proofs.Laws.{bytes_in_lem, bytes_out}
-use borrow.Author.Rules.{rules}
 use Rattle.peek.proofs.frame_bytes.Goals as goal
 
 pub returns-then-e-memory : goal.returns-then-e-memory

@@ -1,11 +1,9 @@
 use mathlib.Core.Path.{◌≡◌, refl}
-use Prim.Native.Nat.{◌≤◌, ◌-◌}
 use native.Mathlib.Omega.{arith}
 use Rattle.logic.specs.Below.{all_below}
 use Rattle.logic.proofs.Laws.{all_next}
 use Rattle.peek.specs.Peek.{blank_byte}
 use Rattle.peek.proofs.Laws.{zeros-length, zeros_all}
-use borrow.Author.Rules.{rules}
 use Rattle.peek.proofs.is_zero_page.Goals as goal
 
 pub returns-then-zero-ne4096 : goal.returns-then-zero-ne4096

@@ -1,11 +1,7 @@
-use mathlib.Core.Path.{◌≡◌, refl}
+use mathlib.Core.Path.{◌≡◌}
 use Prim.Native.Nat.{◌≤◌, ◌-◌}
-use native.Mathlib.Omega.{arith}
 use Rattle.logic.specs.Below.{all_below}
-use Rattle.logic.proofs.Laws.{all_next}
 use Rattle.peek.specs.Peek.{blank_byte}
-use Rattle.peek.proofs.Laws.{zeros-length, zeros_all}
-use borrow.Author.Rules.{rules}
 use Rattle.peek.proofs.is_zero_page.Given as goal
 
 abbrev pub invariant-loop-i : goal.invariant-loop-i

@@ -1,6 +1,5 @@
 use mathlib.Core.Path.{refl}
 use Rattle.peek.proofs.Laws.{peek_frame, peek_zero, peek-none}
-use borrow.Author.Rules.{rules}
 use Rattle.peek.proofs.peek.Goals as goal
 
 pub returns-in-Frame : goal.returns-in-Frame

@@ -1,7 +1,4 @@
-use borrow.Author.Tests.{not-true, not-false}
-use native.Mathlib.Omega.{arith}
 use Rattle.peek.proofs.Laws.{place_policy, place_inside, place_outside}
-use borrow.Author.Rules.{rules}
 use Rattle.peek.proofs.place_at.Goals as goal
 
 pub returns-then-not-is_cached : goal.returns-then-not-is_cached

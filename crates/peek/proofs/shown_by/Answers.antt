@@ -1,4 +1,3 @@
-use borrow.Author.Rules.{rules}
 use Rattle.peek.proofs.shown_by.Goals as goal
 
 pub returns-in-Has : goal.returns-in-Has

@@ -1,5 +1,4 @@
 use Rattle.pool.proofs.Laws.{new-step, new_large, new_bad}
-use borrow.Author.Rules.{rules}
 use Rattle.pool.proofs.new.Goals as goal
 
 pub returns-then-size : goal.returns-then-size

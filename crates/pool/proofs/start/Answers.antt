@@ -1,5 +1,4 @@
 use Rattle.pool.proofs.Laws.{start-fresh, start_bad}
-use borrow.Author.Rules.{rules}
 use Rattle.pool.proofs.start.Goals as goal
 
 pub returns-then-lengths_ok : goal.returns-then-lengths_ok

@@ -1,4 +1,3 @@
-use borrow.Author.Rules.{rules}
 use Rattle.ranges.proofs.answer_by.Goals as goal
 
 pub returns-in-Why : goal.returns-in-Why

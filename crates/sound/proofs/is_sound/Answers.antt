@@ -1,7 +1,6 @@
 use mathlib.Core.Path.{◌∙◌, sym}
 use Rattle.sound.specs.Sound.{sound}
 use Rattle.sound.proofs.Laws.{lengths_hold}
-use borrow.Author.Rules.{rules}
 use Rattle.sound.proofs.is_sound.Goals as goal
 
 pub tables_ok-requires : goal.tables_ok-requires

@@ -1,6 +1,5 @@
 use borrow.Author.Tests.{le-leb, lt-leb}
 use Rattle.sound.specs.Sound.{lengths_ok}
-use borrow.Author.Rules.{rules}
 use Rattle.sound.proofs.lengths_ok.Goals as goal
 
 pub returns-then-frames-le1024 : goal.returns-then-frames-le1024

@@ -1,5 +1,4 @@
 use Rattle.sound.specs.Sound.{tables_ok}
-use borrow.Author.Rules.{rules}
 use Rattle.sound.proofs.tables_ok.Goals as goal
 
 pub returns : goal.returns

@@ -1,5 +1,4 @@
 use Rattle.lookup.proofs.Down.{down_final}
-use borrow.Author.Rules.{rules}
 use Rattle.step_descent.proofs.come_down.Goals as goal
 
 pub returns-in-Ref : goal.returns-in-Ref

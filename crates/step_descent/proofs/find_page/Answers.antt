@@ -1,5 +1,4 @@
 use Rattle.lookup.proofs.Down.{looked_has, looked_bare, looked_tired}
-use borrow.Author.Rules.{rules}
 use Rattle.step_descent.proofs.find_page.Goals as goal
 
 pub returns-in-Has : goal.returns-in-Has

@@ -1,6 +1,5 @@
 use native.Mathlib.Omega.{arith}
 use Rattle.lookup.proofs.Down.{lands, brings}
-use borrow.Author.Rules.{rules}
 use Rattle.step_descent.proofs.fresh_down.Goals as goal
 
 pub returns-then-walked-is_hidden : goal.returns-then-walked-is_hidden

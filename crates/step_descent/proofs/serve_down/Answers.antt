@@ -1,6 +1,5 @@
 use mathlib.Core.Path.{◌∙◌, ap}
 use Rattle.lookup.specs.Descent.{descent}
-use borrow.Author.Rules.{rules}
 use Rattle.step_descent.proofs.serve_down.Goals as goal
 
 pub returns : goal.returns

@@ -1,5 +1,4 @@
 use Rattle.lookup.proofs.Laws.{copy_none, copy_done}
-use borrow.Author.Rules.{rules}
 use Rattle.step_level.proofs.copy_page.Goals as goal
 
 pub returns-in-Nothing : goal.returns-in-Nothing

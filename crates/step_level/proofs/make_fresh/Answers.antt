@@ -1,6 +1,4 @@
-use borrow.Author.Tests.{not-true, not-false}
 use Rattle.lookup.proofs.Laws.{fresh-read, fresh-none, fresh_stop, fresh-new, fresh_kept}
-use borrow.Author.Rules.{rules}
 use Rattle.step_level.proofs.make_fresh.Goals as goal
 
 pub returns-then-not-write : goal.returns-then-not-write

@@ -1,5 +1,4 @@
 use Rattle.lookup.proofs.Laws.{pass_shared, pass_zero, pass-none, pass_stopped, pass-new, pass_kept, pass_own}
-use borrow.Author.Rules.{rules}
 use Rattle.step_level.proofs.pass.Goals as goal
 
 pub returns-then-is_hidden : goal.returns-then-is_hidden

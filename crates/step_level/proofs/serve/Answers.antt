@@ -1,7 +1,5 @@
 use native.Mathlib.Omega.{arith}
-use borrow.Author.Tests.{not-true, not-false}
 use Rattle.lookup.proofs.Laws.{window_low, side_tag, serve_leaf, serve_shares, serve_hands}
-use borrow.Author.Rules.{rules}
 use Rattle.step_level.proofs.serve.Goals as goal
 
 pub returns-then-not-is_hidden : goal.returns-then-not-is_hidden

@@ -1,5 +1,4 @@
 use Rattle.lookup.proofs.Laws.{share_split, share_copy, share_same}
-use borrow.Author.Rules.{rules}
 use Rattle.step_level.proofs.share.Goals as goal
 
 pub returns-then-is_split : goal.returns-then-is_split

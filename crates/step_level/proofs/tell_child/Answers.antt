@@ -1,5 +1,4 @@
 use Rattle.lookup.specs.Level.{child_told}
-use borrow.Author.Rules.{rules}
 use Rattle.step_level.proofs.tell_child.Goals as goal
 
 pub returns-then-due : goal.returns-then-due

@@ -1,5 +1,4 @@
 use Rattle.lookup.specs.Level.{leaf_told}
-use borrow.Author.Rules.{rules}
 use Rattle.step_level.proofs.tell_leaf.Goals as goal
 
 pub returns-then-unmap : goal.returns-then-unmap

@@ -1,4 +1,3 @@
-use borrow.Author.Rules.{rules}
 use Rattle.step_walk.proofs.is_hidden.Goals as goal
 
 pub returns : goal.returns

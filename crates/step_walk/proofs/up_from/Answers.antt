@@ -1,9 +1,8 @@
 use native.Mathlib.Omega.{arith}
-use borrow.Author.Rules.{rules}
 use Rattle.step_walk.proofs.up_from.Goals as goal
 
 pub returns : goal.returns
 returns c = record {
-      value = rw c.parent_of.ensures;
-      near = omega arith;
-    }
+  value = rw c.parent_of.ensures;
+  near = omega arith;
+}

@@ -1,7 +1,5 @@
 use native.Mathlib.Omega.{arith}
-use Prim.Native.Nat.{◌-◌}
-use Rattle.lookup.proofs.Turns.{Climbed, climbed_start, climbed_next, climbed_ends, climbed_last}
-use borrow.Author.Rules.{rules}
+use Rattle.lookup.proofs.Turns.{climbed_start, climbed_next, climbed_ends, climbed_last}
 use Rattle.step_walk.proofs.walk.Goals as goal
 
 pub loop-levels-init : goal.loop-levels-init

@@ -1,7 +1,5 @@
-use native.Mathlib.Omega.{arith}
 use Prim.Native.Nat.{◌-◌}
-use Rattle.lookup.proofs.Turns.{Climbed, climbed_start, climbed_next, climbed_ends, climbed_last}
-use borrow.Author.Rules.{rules}
+use Rattle.lookup.proofs.Turns.{Climbed}
 use Rattle.step_walk.proofs.walk.Given as goal
 
 abbrev pub invariant-loop-levels : goal.invariant-loop-levels

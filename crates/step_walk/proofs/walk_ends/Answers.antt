@@ -1,6 +1,5 @@
 use mathlib.Core.Path.{sym, ◌∙◌}
 use Rattle.lookup.proofs.Turns.{walk_stops, walk_ended}
-use borrow.Author.Rules.{rules}
 use Rattle.step_walk.proofs.walk_ends.Goals as goal
 
 pub returns-in-Ends : goal.returns-in-Ends

@@ -1,6 +1,5 @@
 use borrow.Author.Tests.{lt-ltb, le-ltb}
 use Rattle.tables.specs.Tables.{entry_of}
-use borrow.Author.Rules.{rules}
 use Rattle.tables.proofs.entry_at.Goals as goal
 
 pub returns-then-page : goal.returns-then-page

@@ -1,5 +1,4 @@
 use Rattle.tables.specs.Tables.{free_node_in, free_node_from}
-use borrow.Author.Rules.{rules}
 use Rattle.tables.proofs.free_node.Goals as goal
 
 pub returns : goal.returns

@@ -1,13 +1,11 @@
 use mathlib.Core.Path.{◌≡◌, refl, sym, ◌∙◌}
 use borrow.Author.Tests.{eq-eqb, ne_eqb}
-use Rattle.logic.specs.Below.{first_from}
 use Rattle.logic.proofs.Laws.{first_found, first_next, first-none}
 use mathlib.Core.List.{List}
 use mathlib.Core.Bool.{Bool}
-use Prim.Native.Nat.{ℕ, ◌-◌}
+use Prim.Native.Nat.{ℕ}
 use lib.Dec.{eqb}
 use Rattle.tables.specs.Tables.{word_of, free_node_from, is_free}
-use borrow.Author.Rules.{rules}
 use Rattle.tables.proofs.free_node_from.Goals as goal
 
 free_by : (nodes : List ℕ) (i : ℕ) {w : ℕ} {b : Bool} → w ≡ word_of nodes i 0 → eqb w 0 ≡ b → is_free nodes i ≡ b

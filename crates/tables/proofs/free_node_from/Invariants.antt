@@ -1,13 +1,7 @@
-use mathlib.Core.Path.{◌≡◌, refl, sym, ◌∙◌}
-use borrow.Author.Tests.{eq-eqb, ne_eqb}
+use mathlib.Core.Path.{◌≡◌}
 use Rattle.logic.specs.Below.{first_from}
-use Rattle.logic.proofs.Laws.{first_found, first_next, first-none}
-use mathlib.Core.List.{List}
-use mathlib.Core.Bool.{Bool}
-use Prim.Native.Nat.{ℕ, ◌-◌}
-use lib.Dec.{eqb}
-use Rattle.tables.specs.Tables.{word_of, free_node_from, is_free}
-use borrow.Author.Rules.{rules}
+use Prim.Native.Nat.{◌-◌}
+use Rattle.tables.specs.Tables.{free_node_from, is_free}
 use Rattle.tables.proofs.free_node_from.Given as goal
 
 abbrev pub invariant-loop-i : goal.invariant-loop-i

@@ -1,6 +1,5 @@
 use borrow.Author.Tests.{le-leb, lt-leb}
 use Rattle.tables.specs.Tables.{mapping_of}
-use borrow.Author.Rules.{rules}
 use Rattle.tables.proofs.mapping_at.Goals as goal
 
 pub returns-then-a-mappings : goal.returns-then-a-mappings

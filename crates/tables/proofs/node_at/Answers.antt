@@ -1,6 +1,5 @@
 use borrow.Author.Tests.{lt-leb}
 use Rattle.tables.specs.Tables.{node_of}
-use borrow.Author.Rules.{rules}
 use Rattle.tables.proofs.node_at.Goals as goal
 
 pub returns : goal.returns

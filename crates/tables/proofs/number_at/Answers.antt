@@ -1,7 +1,6 @@
 use mathlib.Core.Path.{ap}
 use Rattle.tables.specs.declared.Mapping.{Mapping}
 use Rattle.tables.specs.Tables.{number_of}
-use borrow.Author.Rules.{rules}
 use Rattle.tables.proofs.number_at.Goals as goal
 
 pub returns : goal.returns

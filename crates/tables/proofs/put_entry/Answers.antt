@@ -1,6 +1,5 @@
 use borrow.Author.Tests.{lt-ltb, le-ltb}
 use Rattle.tables.specs.Tables.{with_entry}
-use borrow.Author.Rules.{rules}
 use Rattle.tables.proofs.put_entry.Goals as goal
 
 pub returns-then-page : goal.returns-then-page

@@ -1,5 +1,4 @@
 use Rattle.tables.specs.Tables.{with_five}
-use borrow.Author.Rules.{rules}
 use Rattle.tables.proofs.put_five.Goals as goal
 
 pub returns : goal.returns

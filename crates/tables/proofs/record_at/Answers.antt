@@ -1,7 +1,6 @@
 use native.Mathlib.Nat.{add-zero}
 use borrow.Author.Tests.{le-leb}
 use Rattle.tables.specs.Tables.{node_of, record_of, word_of}
-use borrow.Author.Rules.{rules}
 use Rattle.tables.proofs.record_at.Goals as goal
 
 pub returns : goal.returns

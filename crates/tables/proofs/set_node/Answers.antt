@@ -1,5 +1,4 @@
 use Rattle.tables.specs.Tables.{with_node}
-use borrow.Author.Rules.{rules}
 use Rattle.tables.proofs.set_node.Goals as goal
 
 pub returns : goal.returns

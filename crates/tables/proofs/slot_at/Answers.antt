@@ -1,5 +1,4 @@
 use Rattle.tables.specs.Tables.{slot_at}
-use borrow.Author.Rules.{rules}
 use Rattle.tables.proofs.slot_at.Goals as goal
 
 pub returns : goal.returns

@@ -1,5 +1,4 @@
 use Rattle.tables.specs.Tables.{word_of}
-use borrow.Author.Rules.{rules}
 use Rattle.tables.proofs.word_at.Goals as goal
 
 pub returns : goal.returns

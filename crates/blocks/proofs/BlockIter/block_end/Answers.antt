@@ -6,13 +6,13 @@ use Rattle.blocks.proofs.BlockIter.block_end.Goals as goal
 pub returns-then-self : goal.returns-then-self
 unfolding block_end
 returns-then-self c = record {
-      value = simp (eq-eqb _ _ c.if-self.true);
-      inside = omega arith;
-    }
+  value = simp (eq-eqb _ _ c.if-self.true);
+  inside = omega arith;
+}
 
 pub returns : goal.returns
 unfolding block_end
 returns c = record {
-      value = simp (ne_eqb _ _ c.if-self.false);
-      inside = omega arith;
-    }
+  value = simp (ne_eqb _ _ c.if-self.false);
+  inside = omega arith;
+}

@@ -1,7 +1,6 @@
 use borrow.Author.Tests.{le-leb, lt-leb}
 use Rattle.blocks.specs.Blocks.{count_of}
 use Rattle.blocks.proofs.Laws.{pages_least}
-use borrow.Author.Rules.{rules}
 use Rattle.blocks.proofs.BlockIter.count.Goals as goal
 
 pub returns-then-self : goal.returns-then-self

@@ -1,6 +1,5 @@
 use borrow.Author.Tests.{le-leb, lt-leb}
 use Rattle.blocks.specs.Blocks.{next_of, next_by}
-use borrow.Author.Rules.{rules}
 use Rattle.blocks.proofs.BlockIter.next.Goals as goal
 
 pub returns-then-self : goal.returns-then-self

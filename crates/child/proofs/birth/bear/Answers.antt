@@ -1,5 +1,4 @@
 use Rattle.child.proofs.Laws.{bear_done}
-use borrow.Author.Rules.{rules}
 use Rattle.child.proofs.birth.bear.Goals as goal
 
 pub returns : goal.returns

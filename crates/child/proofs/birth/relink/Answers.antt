@@ -1,5 +1,4 @@
 use Rattle.child.proofs.Laws.{relink_none, relink_done}
-use borrow.Author.Rules.{rules}
 use Rattle.child.proofs.birth.relink.Goals as goal
 
 pub returns-then-parent-eq-NONE : goal.returns-then-parent-eq-NONE

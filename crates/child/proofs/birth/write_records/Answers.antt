@@ -1,5 +1,4 @@
 use Rattle.child.proofs.Laws.{records_done}
-use borrow.Author.Rules.{rules}
 use Rattle.child.proofs.birth.write_records.Goals as goal
 
 pub returns : goal.returns

@@ -1,5 +1,4 @@
 use Rattle.entry.specs.Entry.{entry_word}
-use borrow.Author.Rules.{rules}
 use Rattle.entry.proofs.PageState.word.Goals as goal
 
 pub returns : goal.returns

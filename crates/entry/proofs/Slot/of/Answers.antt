@@ -1,6 +1,5 @@
 use borrow.Author.Tests.{eq-eqb, ne_eqb}
 use Rattle.entry.specs.Entry.{slot_of, state_of}
-use borrow.Author.Rules.{rules}
 use Rattle.entry.proofs.Slot.of.Goals as goal
 
 pub returns-then-low-eq0 : goal.returns-then-low-eq0

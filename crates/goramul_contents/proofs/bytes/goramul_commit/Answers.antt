@@ -1,5 +1,4 @@
 use Rattle.outcome.proofs.Laws.{gives}
-use borrow.Author.Rules.{rules}
 use Rattle.goramul_contents.proofs.bytes.goramul_commit.Goals as goal
 
 pub returns : goal.returns

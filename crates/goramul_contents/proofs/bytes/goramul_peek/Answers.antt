@@ -1,4 +1,3 @@
-use borrow.Author.Rules.{rules}
 use Rattle.goramul_contents.proofs.bytes.goramul_peek.Goals as goal
 
 pub returns : goal.returns

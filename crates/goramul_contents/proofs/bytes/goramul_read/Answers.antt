@@ -1,6 +1,5 @@
 use Rattle.outcome.proofs.Laws.{gives_quiet}
 use Rattle.ranges.proofs.Laws.{read-quiet}
-use borrow.Author.Rules.{rules}
 use Rattle.goramul_contents.proofs.bytes.goramul_read.Goals as goal
 
 pub returns : goal.returns

@@ -1,6 +1,5 @@
 use Rattle.outcome.proofs.Laws.{gives_frameless}
 use Rattle.child.proofs.Laws.{create_frameless}
-use borrow.Author.Rules.{rules}
 use Rattle.goramul_objects.proofs.children.goramul_create_child.Goals as goal
 
 pub returns : goal.returns

@@ -1,5 +1,4 @@
 use Rattle.node.specs.Node.{side_of}
-use borrow.Author.Rules.{rules}
 use Rattle.node.proofs.Node.get_tag_and_other.Goals as goal
 
 pub returns-then-is_hidden-self : goal.returns-then-is_hidden-self

@@ -1,6 +1,5 @@
 use mathlib.Core.Path.{refl}
 use Rattle.node.specs.Node.{cached_of}
-use borrow.Author.Rules.{rules}
 use Rattle.node.proofs.Node.is_cached.Goals as goal
 
 pub returns : goal.returns

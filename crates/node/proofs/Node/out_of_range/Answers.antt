@@ -1,5 +1,4 @@
 use Rattle.node.specs.Node.{out_of}
-use borrow.Author.Rules.{rules}
 use Rattle.node.proofs.Node.out_of_range.Goals as goal
 
 pub returns-then-is_hidden-self : goal.returns-then-is_hidden-self

@@ -1,5 +1,4 @@
 use borrow.Author.Tests.{eq-eqb, ne_eqb}
-use borrow.Author.Rules.{rules}
 use Rattle.node.proofs.Node.relinked.Goals as goal
 
 pub returns-then-self-link : goal.returns-then-self-link

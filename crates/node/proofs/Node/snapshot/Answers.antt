@@ -1,4 +1,3 @@
-use borrow.Author.Rules.{rules}
 use Rattle.node.proofs.Node.snapshot.Goals as goal
 
 pub returns : goal.returns

@@ -1,5 +1,4 @@
 use Rattle.outcome.proofs.Laws.{put_room, put_full}
-use borrow.Author.Rules.{rules}
 use Rattle.outcome.proofs.notice.put_notice.Goals as goal
 
 pub returns-then-count-notices : goal.returns-then-count-notices

@@ -1,7 +1,6 @@
 use native.Mathlib.Omega.{arith}
 use native.Mathlib.Nat.{mul-le-mul}
 use Rattle.outcome.specs.Room.{room_of}
-use borrow.Author.Rules.{rules}
 use Rattle.outcome.proofs.room.has_room.Goals as goal
 
 pub overflow_mul-result : goal.overflow_mul-result

@@ -1,9 +1,8 @@
 use mathlib.Core.Path.{◌≡◌, refl}
-use Prim.Native.Nat.{◌≤◌, ◌-◌}
 use native.Mathlib.Omega.{arith}
 use Rattle.logic.specs.Below.{sum_below}
 use Rattle.logic.proofs.Laws.{sum-next}
-use Rattle.outcome.specs.Room.{live_one, live_count}
+use Rattle.outcome.specs.Room.{live_count}
 use borrow.Author.Rules.{rules}
 use Rattle.outcome.proofs.room.live_count.Goals as goal
 

@@ -1,10 +1,7 @@
-use mathlib.Core.Path.{◌≡◌, refl}
+use mathlib.Core.Path.{◌≡◌}
 use Prim.Native.Nat.{◌≤◌, ◌-◌}
-use native.Mathlib.Omega.{arith}
 use Rattle.logic.specs.Below.{sum_below}
-use Rattle.logic.proofs.Laws.{sum-next}
-use Rattle.outcome.specs.Room.{live_one, live_count}
-use borrow.Author.Rules.{rules}
+use Rattle.outcome.specs.Room.{live_one}
 use Rattle.outcome.proofs.room.live_count.Given as goal
 
 abbrev pub invariant-loop-i : goal.invariant-loop-i

@@ -1,4 +1,3 @@
-use borrow.Author.Rules.{rules}
 use Rattle.page.proofs.reading.against_read.Goals as goal
 
 pub returns-in-Refused : goal.returns-in-Refused

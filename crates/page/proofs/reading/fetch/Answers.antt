@@ -1,6 +1,5 @@
 use Rattle.page.specs.Pages.{fetched_by}
 use Rattle.page.proofs.Laws.{fetched_all, fetched_zero}
-use borrow.Author.Rules.{rules}
 use Rattle.page.proofs.reading.fetch.Goals as goal
 
 pub returns-in-Frame : goal.returns-in-Frame

@@ -1,6 +1,5 @@
 use Rattle.lookup.proofs.Asked.{asked_low, asked_leaf}
 use Rattle.page.proofs.Laws.{look-quiet}
-use borrow.Author.Rules.{rules}
 use Rattle.page.proofs.reading.find_read.Goals as goal
 
 pub commit_page-step-requires : goal.commit_page-step-requires

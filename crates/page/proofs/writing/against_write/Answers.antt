@@ -1,4 +1,3 @@
-use borrow.Author.Rules.{rules}
 use Rattle.page.proofs.writing.against_write.Goals as goal
 
 pub returns-in-ZeroFrame : goal.returns-in-ZeroFrame

@@ -1,6 +1,5 @@
 use Rattle.page.specs.Pages.{stored_by}
 use Rattle.page.proofs.Laws.{stored_all}
-use borrow.Author.Rules.{rules}
 use Rattle.page.proofs.writing.store.Goals as goal
 
 pub returns-in-Frame : goal.returns-in-Frame

@@ -1,8 +1,6 @@
 use mathlib.Core.Path.{◌≡◌, refl}
-use mathlib.Core.List.{◌++◌}
-use Prim.Native.Nat.{◌≤◌, ◌-◌}
 use native.Mathlib.Omega.{arith}
-use lib.ListN.{length, replicate, drop, length-set}
+use lib.ListN.{length, length-set}
 use Rattle.pool.proofs.Laws.{fill_turn, fill_end}
 use borrow.Author.Rules.{rules}
 use Rattle.pool.proofs.steps.clear.Goals as goal

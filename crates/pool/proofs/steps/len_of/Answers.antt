@@ -1,5 +1,4 @@
 use Rattle.pool.specs.Calls.{len_of}
-use borrow.Author.Rules.{rules}
 use Rattle.pool.proofs.steps.len_of.Goals as goal
 
 pub returns : goal.returns

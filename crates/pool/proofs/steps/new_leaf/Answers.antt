@@ -1,6 +1,5 @@
 use native.Mathlib.Omega.{arith}
 use Rattle.pool.proofs.Laws.{leaf_new, leaf_full, leaf_owners}
-use borrow.Author.Rules.{rules}
 use Rattle.pool.proofs.steps.new_leaf.Goals as goal
 
 pub returns-in-At : goal.returns-in-At

@@ -1,5 +1,4 @@
 use Rattle.sound.specs.Maps.{mapping_ok}
-use borrow.Author.Rules.{rules}
 use Rattle.sound.proofs.maps.mapping_ok.Goals as goal
 
 pub returns : goal.returns

@@ -1,5 +1,4 @@
 use Rattle.sound.proofs.MapLaws.{mappings_by}
-use borrow.Author.Rules.{rules}
 use Rattle.sound.proofs.maps.mappings_ok.Goals as goal
 
 pub returns : goal.returns

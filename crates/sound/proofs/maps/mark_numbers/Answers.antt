@@ -1,8 +1,5 @@
 use mathlib.Core.Path.{◌≡◌, refl}
-use Prim.Native.Nat.{◌≤◌, ◌-◌}
 use native.Mathlib.Omega.{arith}
-use lib.ListN.{length}
-use Rattle.tables.specs.Tables.{number_of}
 use Rattle.sound.specs.Rows.{mark_run}
 use Rattle.sound.proofs.RowLaws.{run_next}
 use borrow.Author.Rules.{rules}

@@ -1,11 +1,8 @@
-use mathlib.Core.Path.{◌≡◌, refl}
+use mathlib.Core.Path.{◌≡◌}
 use Prim.Native.Nat.{◌≤◌, ◌-◌}
-use native.Mathlib.Omega.{arith}
 use lib.ListN.{length}
 use Rattle.tables.specs.Tables.{number_of}
 use Rattle.sound.specs.Rows.{mark_run}
-use Rattle.sound.proofs.RowLaws.{run_next}
-use borrow.Author.Rules.{rules}
 use Rattle.sound.proofs.maps.mark_numbers.Given as goal
 
 abbrev pub invariant-loop-i : goal.invariant-loop-i

@@ -1,6 +1,4 @@
-use Rattle.sound.specs.Maps.{place_ok, blank_of}
 use Rattle.sound.proofs.MapLaws.{place-blank, place_held}
-use borrow.Author.Rules.{rules}
 use Rattle.sound.proofs.maps.place_ok.Goals as goal
 
 pub returns-then-is_blank : goal.returns-then-is_blank

@@ -1,9 +1,7 @@
 use mathlib.Core.Path.{◌≡◌, refl}
-use Prim.Native.Nat.{◌≤◌, ◌-◌}
 use native.Mathlib.Omega.{arith}
 use Rattle.logic.specs.Below.{all_below}
 use Rattle.logic.proofs.Laws.{all_next}
-use Rattle.sound.specs.Maps.{place_ok}
 use borrow.Author.Rules.{rules}
 use Rattle.sound.proofs.maps.places_ok.Goals as goal
 

@@ -1,6 +1,5 @@
 use mathlib.Core.Path.{refl}
 use Rattle.sound.specs.Rows.{entry_ok}
-use borrow.Author.Rules.{rules}
 use Rattle.sound.proofs.rows.entry_ok.Goals as goal
 
 pub returns : goal.returns

@@ -1,5 +1,4 @@
 use Rattle.sound.proofs.RowLaws.{row_same, row_plain, row_more, mark-none}
-use borrow.Author.Rules.{rules}
 use Rattle.sound.proofs.rows.entry_step.Goals as goal
 
 pub returns-then-e-eq0 : goal.returns-then-e-eq0

@@ -1,11 +1,9 @@
 use Rattle.sound.proofs.RowLaws.{frame_next}
 use mathlib.Core.Path.{◌≡◌, refl}
-use Prim.Native.Nat.{◌≤◌, ◌-◌}
 use native.Mathlib.Omega.{arith}
 use lib.ListN.{length}
 use Rattle.logic.specs.Below.{all_below}
-use Rattle.logic.proofs.Laws.{all_next}
-use Rattle.sound.specs.Rows.{frames_ok, frame_ok}
+use Rattle.sound.specs.Rows.{frames_ok}
 use borrow.Author.Rules.{rules}
 use Rattle.sound.proofs.rows.frames_ok.Goals as goal
 

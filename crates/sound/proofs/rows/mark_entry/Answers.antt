@@ -1,5 +1,4 @@
 use Rattle.sound.proofs.RowLaws.{mark-none, mark_here, mark_past}
-use borrow.Author.Rules.{rules}
 use Rattle.sound.proofs.rows.mark_entry.Goals as goal
 
 pub returns-then-e-eq0 : goal.returns-then-e-eq0

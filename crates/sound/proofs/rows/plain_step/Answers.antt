@@ -1,6 +1,5 @@
 use mathlib.Core.Path.{refl}
 use Rattle.sound.proofs.RowLaws.{mark_plain}
-use borrow.Author.Rules.{rules}
 use Rattle.sound.proofs.rows.plain_step.Goals as goal
 
 pub returns : goal.returns

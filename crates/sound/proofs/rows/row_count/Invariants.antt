@@ -1,11 +1,7 @@
-use mathlib.Core.Path.{◌≡◌, refl, ap, ◌∙◌}
-use Prim.Native.Nat.{ℕ, ◌≤◌, ◌-◌, ◌*◌}
-use native.Mathlib.Omega.{arith}
+use mathlib.Core.Path.{◌≡◌}
+use Prim.Native.Nat.{◌≤◌, ◌-◌}
 use Rattle.logic.specs.Below.{sum_below}
-use Rattle.logic.proofs.Laws.{sum-next}
-use Rattle.sound.specs.Rows.{row_count, present_at, one_if}
-use Rattle.sound.proofs.RowLaws.{entry_in}
-use borrow.Author.Rules.{rules}
+use Rattle.sound.specs.Rows.{present_at}
 use Rattle.sound.proofs.rows.row_count.Given as goal
 
 abbrev pub invariant-loop-i : goal.invariant-loop-i

@@ -1,5 +1,4 @@
 use Rattle.sound.proofs.RowLaws.{row_by}
-use borrow.Author.Rules.{rules}
 use Rattle.sound.proofs.rows.row_test.Goals as goal
 
 pub returns : goal.returns

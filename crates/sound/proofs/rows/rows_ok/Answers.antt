@@ -1,10 +1,8 @@
 use mathlib.Core.Path.{◌≡◌, refl}
-use Prim.Native.Nat.{◌≤◌, ◌-◌}
 use native.Mathlib.Omega.{arith}
-use lib.ListN.{length}
 use Rattle.logic.specs.Below.{all_below}
 use Rattle.logic.proofs.Laws.{all_next}
-use Rattle.sound.specs.Rows.{row_test, rows_ok, mark_rows}
+use Rattle.sound.specs.Rows.{rows_ok, mark_rows}
 use Rattle.sound.proofs.RowLaws.{rows_next}
 use borrow.Author.Rules.{rules}
 use Rattle.sound.proofs.rows.rows_ok.Goals as goal

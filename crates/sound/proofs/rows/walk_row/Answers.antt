@@ -2,11 +2,9 @@ use mathlib.Core.Bool.{Bool}
 use mathlib.Core.List.{List}
 use Rattle.sound.specs.declared.rows.Row.{Row}
 use mathlib.Core.Path.{◌≡◌, refl, ap}
-use Prim.Native.Nat.{◌≤◌, ◌-◌, ◌*◌, ◌+◌, ℕ}
+use Prim.Native.Nat.{◌≤◌, ◌*◌, ◌+◌, ℕ}
 use native.Mathlib.Omega.{arith}
-use lib.ListN.{length}
 use Rattle.logic.specs.Below.{all_below, sum_below}
-use Rattle.tables.specs.Tables.{entry_of}
 use Rattle.sound.specs.Rows.{row_count, walked, mark_run, present_at}
 use Rattle.sound.proofs.RowLaws.{walk-next, walk_inside, walk_end, marks_end, next_pins, run_next, entry_in}
 use borrow.Author.Rules.{rules}

@@ -1,6 +1,5 @@
 use borrow.Author.Tests.{eq-eqb, ne_eqb}
 use Rattle.sound.specs.Tree.{named_ok}
-use borrow.Author.Rules.{rules}
 use Rattle.sound.proofs.tree.children_ok.Goals as goal
 
 pub returns-then-n-eq-HIDDEN : goal.returns-then-n-eq-HIDDEN

@@ -1,6 +1,5 @@
 use borrow.Author.Tests.{eq-eqb, ne_eqb}
 use Rattle.sound.specs.Tree.{linked_of}
-use borrow.Author.Rules.{rules}
 use Rattle.sound.proofs.tree.linked.Goals as goal
 
 pub returns-then-link-eq-NONE : goal.returns-then-link-eq-NONE

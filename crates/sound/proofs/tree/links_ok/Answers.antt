@@ -1,5 +1,4 @@
 use Rattle.sound.proofs.TreeLaws.{links_by}
-use borrow.Author.Rules.{rules}
 use Rattle.sound.proofs.tree.links_ok.Goals as goal
 
 pub returns : goal.returns

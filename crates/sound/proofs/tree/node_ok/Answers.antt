@@ -1,6 +1,5 @@
 use Rattle.sound.specs.Tree.{node_ok}
 use Rattle.sound.proofs.TreeLaws.{free_node_lem}
-use borrow.Author.Rules.{rules}
 use Rattle.sound.proofs.tree.node_ok.Goals as goal
 
 pub returns-then-n-eq-FREE : goal.returns-then-n-eq-FREE

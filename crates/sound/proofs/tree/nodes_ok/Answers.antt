@@ -1,9 +1,8 @@
 use mathlib.Core.Path.{◌≡◌, refl}
-use Prim.Native.Nat.{◌≤◌, ◌-◌}
 use native.Mathlib.Omega.{arith}
 use Rattle.logic.specs.Below.{all_below}
 use Rattle.logic.proofs.Laws.{all_next}
-use Rattle.sound.specs.Tree.{node_ok, nodes_ok}
+use Rattle.sound.specs.Tree.{nodes_ok}
 use borrow.Author.Rules.{rules}
 use Rattle.sound.proofs.tree.nodes_ok.Goals as goal
 

@@ -1,10 +1,7 @@
-use mathlib.Core.Path.{◌≡◌, refl}
+use mathlib.Core.Path.{◌≡◌}
 use Prim.Native.Nat.{◌≤◌, ◌-◌}
-use native.Mathlib.Omega.{arith}
 use Rattle.logic.specs.Below.{all_below}
-use Rattle.logic.proofs.Laws.{all_next}
-use Rattle.sound.specs.Tree.{node_ok, nodes_ok}
-use borrow.Author.Rules.{rules}
+use Rattle.sound.specs.Tree.{node_ok}
 use Rattle.sound.proofs.tree.nodes_ok.Given as goal
 
 abbrev pub invariant-loop-i : goal.invariant-loop-i

@@ -1,10 +1,7 @@
 use mathlib.Core.Path.{◌≡◌, refl}
-use Prim.Native.Nat.{◌≤◌, ◌-◌}
 use native.Mathlib.Omega.{arith}
-use lib.ListN.{length}
 use Rattle.logic.specs.Below.{all_below}
 use Rattle.logic.proofs.Laws.{all_next}
-use Rattle.sound.specs.Tree.{none_at}
 use borrow.Author.Rules.{rules}
 use Rattle.sound.proofs.tree.none_left.Goals as goal
 

@@ -4,7 +4,6 @@ use native.Mathlib.Omega.{arith}
 use borrow.Author.Tests.{le-leb, ne_eqb}
 use Rattle.sound.specs.Tree.{numbers_ok}
 use lib.Dec.{leb}
-use borrow.Author.Rules.{rules}
 use Rattle.sound.proofs.tree.numbers_ok.Goals as goal
 
 pub returns : goal.returns

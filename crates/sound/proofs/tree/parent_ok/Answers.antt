@@ -1,6 +1,5 @@
 use borrow.Author.Tests.{eq-eqb}
 use Rattle.sound.proofs.TreeLaws.{parent_by}
-use borrow.Author.Rules.{rules}
 use Rattle.sound.proofs.tree.parent_ok.Goals as goal
 
 pub returns-then-n-eq-NONE : goal.returns-then-n-eq-NONE

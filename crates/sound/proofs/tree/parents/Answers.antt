@@ -1,7 +1,6 @@
 use mathlib.Core.Path.{◌≡◌, refl}
-use Prim.Native.Nat.{◌≤◌, ◌-◌}
 use native.Mathlib.Omega.{arith}
-use lib.ListN.{length, length-set}
+use lib.ListN.{length-set}
 use Rattle.sound.specs.Tree.{links_to}
 use Rattle.sound.proofs.TreeLaws.{links_next}
 use borrow.Author.Rules.{rules}

@@ -1,10 +1,7 @@
-use mathlib.Core.Path.{◌≡◌, refl}
+use mathlib.Core.Path.{◌≡◌}
 use Prim.Native.Nat.{◌≤◌, ◌-◌}
-use native.Mathlib.Omega.{arith}
-use lib.ListN.{length, length-set}
+use lib.ListN.{length}
 use Rattle.sound.specs.Tree.{links_to}
-use Rattle.sound.proofs.TreeLaws.{links_next}
-use borrow.Author.Rules.{rules}
 use Rattle.sound.proofs.tree.parents.Given as goal
 
 abbrev pub invariant-loop-i : goal.invariant-loop-i

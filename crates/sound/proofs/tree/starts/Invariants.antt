@@ -1,10 +1,7 @@
-use mathlib.Core.Path.{◌≡◌, refl}
+use mathlib.Core.Path.{◌≡◌}
 use Prim.Native.Nat.{◌≤◌, ◌-◌, ◌*◌}
-use native.Mathlib.Omega.{arith}
 use Rattle.logic.specs.Below.{sum_below}
-use Rattle.logic.proofs.Laws.{sum-next}
-use Rattle.sound.specs.Tree.{starts_sum, start_of}
-use borrow.Author.Rules.{rules}
+use Rattle.sound.specs.Tree.{start_of}
 use Rattle.sound.proofs.tree.starts.Given as goal
 
 abbrev pub invariant-loop-i : goal.invariant-loop-i

@@ -1,5 +1,4 @@
 use Rattle.sound.specs.Tree.{starts_ok}
-use borrow.Author.Rules.{rules}
 use Rattle.sound.proofs.tree.starts_ok.Goals as goal
 
 pub returns : goal.returns

@@ -1,7 +1,6 @@
 use mathlib.Core.Path.{◌≡◌, refl}
-use Prim.Native.Nat.{◌≤◌, ◌-◌}
 use native.Mathlib.Omega.{arith}
-use lib.ListN.{length, length-set}
+use lib.ListN.{length-set}
 use Rattle.sound.specs.Tree.{step_to}
 use Rattle.sound.proofs.TreeLaws.{step-next}
 use borrow.Author.Rules.{rules}

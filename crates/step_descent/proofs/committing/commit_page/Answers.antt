@@ -1,6 +1,5 @@
 use mathlib.Core.Path.{ap}
 use Rattle.lookup.specs.Commit.{committing}
-use borrow.Author.Rules.{rules}
 use Rattle.step_descent.proofs.committing.commit_page.Goals as goal
 
 pub returns : goal.returns

@@ -1,4 +1,3 @@
-use borrow.Author.Rules.{rules}
 use Rattle.step_descent.proofs.committing.committed_by.Goals as goal
 
 pub returns-in-Ref : goal.returns-in-Ref

@@ -1,10 +1,7 @@
-use mathlib.Core.Path.{◌≡◌, refl}
+use mathlib.Core.Path.{◌≡◌}
 use Prim.Native.Nat.{◌≤◌, ◌-◌}
-use native.Mathlib.Omega.{arith}
 use Rattle.logic.specs.Below.{all_below}
-use Rattle.logic.proofs.Laws.{all_next}
 use Rattle.tables.specs.Tables.{zero_from}
-use borrow.Author.Rules.{rules}
 use Rattle.tables.proofs.live.is_blank_block.Given as goal
 
 abbrev pub invariant-loop-k : goal.invariant-loop-k

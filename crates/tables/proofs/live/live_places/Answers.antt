@@ -1,7 +1,4 @@
-use mathlib.Core.Path.{◌≡◌}
-use Prim.Native.Nat.{ℕ, ◌≤◌, ◌<◌, ◌*◌}
 use native.Mathlib.Omega.{arith}
-use Rattle.tables.specs.Tables.{mapping_of, mapping_by}
 use Rattle.tables.proofs.Laws.{blank_turn}
 use borrow.Author.Rules.{rules}
 use Rattle.tables.proofs.live.live_places.Goals as goal

@@ -1,9 +1,6 @@
 use mathlib.Core.Path.{◌≡◌}
 use Prim.Native.Nat.{ℕ, ◌≤◌, ◌<◌, ◌*◌}
-use native.Mathlib.Omega.{arith}
 use Rattle.tables.specs.Tables.{mapping_of, mapping_by}
-use Rattle.tables.proofs.Laws.{blank_turn}
-use borrow.Author.Rules.{rules}
 use Rattle.tables.proofs.live.live_places.Given as goal
 
 abbrev pub invariant-loop-blocks : goal.invariant-loop-blocks

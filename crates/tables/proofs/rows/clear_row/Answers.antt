@@ -1,7 +1,5 @@
 use mathlib.Core.Path.{◌≡◌, refl}
-use Prim.Native.Nat.{◌≤◌, ◌-◌, ◌*◌}
 use native.Mathlib.Omega.{arith}
-use lib.ListN.{length}
 use Rattle.logic.specs.Below.{zeroed}
 use Rattle.tables.proofs.Laws.{clear_turn}
 use borrow.Author.Rules.{rules}

@@ -1,10 +1,7 @@
-use mathlib.Core.Path.{◌≡◌, refl}
+use mathlib.Core.Path.{◌≡◌}
 use Prim.Native.Nat.{◌≤◌, ◌-◌, ◌*◌}
-use native.Mathlib.Omega.{arith}
 use lib.ListN.{length}
 use Rattle.logic.specs.Below.{zeroed}
-use Rattle.tables.proofs.Laws.{clear_turn}
-use borrow.Author.Rules.{rules}
 use Rattle.tables.proofs.rows.clear_row.Given as goal
 
 abbrev pub invariant-loop-k : goal.invariant-loop-k

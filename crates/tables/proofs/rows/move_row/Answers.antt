@@ -1,5 +1,4 @@
 use Rattle.tables.specs.Tables.{row_moved}
-use borrow.Author.Rules.{rules}
 use Rattle.tables.proofs.rows.move_row.Goals as goal
 
 pub returns : goal.returns
