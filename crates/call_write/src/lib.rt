@@ -60,7 +60,7 @@ fn write_range(
     bytes: &[u8],
 ) -> WritePart
     requires { offset + length bytes.now ≤ byte_limit }
-    ensures count_after { part_of result.why result.rest (work_of pages.new used.new memory.new (told_of notices.new result.count))
+    ensures value { part_of result.why result.rest (work_of pages.new used.new memory.new (told_of notices.new result.count))
         ≡ write_range 4096 nodes.now mappings.now node offset bytes.now (work_of pages.old used.old memory.old (told_of notices.old 0)) }
     ensures fits { offset ≤ result.rest.begin }
 {

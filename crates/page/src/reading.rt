@@ -71,7 +71,7 @@ pub fn read_page(
     it: BlockIter,
 ) -> ReadPart
     requires { (offset ≤ it.begin) × (it.end ≤ byte_limit) }
-    ensures buf_after { part_of result.why result.rest (read_of pages.new used.new memory.new buf.new)
+    ensures value { part_of result.why result.rest (read_of pages.new used.new memory.new buf.new)
         ≡ read_page 4096 nodes.now mappings.now node offset it (read_of pages.old used.old memory.old buf.old) }
     ensures fits { (offset ≤ result.rest.begin) × (result.rest.end ≤ byte_limit) }
 {

@@ -55,7 +55,7 @@ pub fn write_page(
     it: BlockIter,
 ) -> WritePart
     requires { (offset ≤ it.begin) × (it.end ≤ byte_limit) }
-    ensures count_after { part_of result.why result.rest (work_of pages.new used.new memory.new (told_of notices.new result.count))
+    ensures value { part_of result.why result.rest (work_of pages.new used.new memory.new (told_of notices.new result.count))
         ≡ write_page 4096 nodes.now mappings.now node offset bytes.now it (work_of pages.old used.old memory.old (told_of notices.old count)) }
     ensures fits { (offset ≤ result.rest.begin) × (result.rest.end ≤ byte_limit) }
 {
@@ -102,7 +102,7 @@ pub fn commit_one(
     page: u64,
 ) -> CommitPart
     requires { page < 4294967296 }
-    ensures count_after { part_of result.why result.rest (work_of pages.new used.new memory.new (told_of notices.new result.count))
+    ensures value { part_of result.why result.rest (work_of pages.new used.new memory.new (told_of notices.new result.count))
         ≡ commit_one 4096 nodes.now mappings.now node page (work_of pages.old used.old memory.old (told_of notices.old count)) }
     ensures near { result.rest ≤ page + 1 }
 {

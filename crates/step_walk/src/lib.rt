@@ -47,7 +47,7 @@ pub fn up_from(n: Node, p: Place) -> Place
 
 fn take_turn(nodes: &[u32], pages: &[u32], p: Place) -> Turn
     requires { p.page ≤ 281474976710656 }
-    ensures by_index { (M : List ℕ) → result ≡ turn (today 4096 nodes.now M) pages.now p }
+    ensures value { (M : List ℕ) → result ≡ turn (today 4096 nodes.now M) pages.now p }
     ensures near { (q : Place) → result ≡ Climbs q → q.page ≤ p.page + 4294967296 }
 {
     let slot = tables::slot_at(pages, p.node, p.page);
@@ -85,7 +85,7 @@ fn walk_ends(nodes: &[u32], pages: &[u32], p: Place) -> End
 // At most 64 parents are asked, more than a sound pool has above a node.
 pub fn walk(nodes: &[u32], pages: &[u32], place: Place) -> Walked
     requires { place.page ≤ 4294967296 }
-    ensures by_index { (M : List ℕ) → way result.levels result.end ≡ walk (today 4096 nodes.now M) 64 pages.now place }
+    ensures value { (M : List ℕ) → way result.levels result.end ≡ walk (today 4096 nodes.now M) 64 pages.now place }
     ensures top { (M : List ℕ) → result.top ≡ ups (today 4096 nodes.now M) result.levels place }
     ensures hidden { (M : List ℕ) → result.hidden ≡ hidden_up (today 4096 nodes.now M) result.levels place }
     ensures low { (result.levels ≤ 64) × (result.top.page ≤ 281474976710656) }

@@ -23,7 +23,7 @@ returns-in-Why c =
     let the-loop-test =
     c.loop-left-test in
     let the-loop = c.loop-left in
-    each_stop (commit_one 4096 _ _ _) the-loop.page _ the-commit-one.ensures.count_after the-loop.left (omega (arith, the-loop-test.true))
+    each_stop (commit_one 4096 _ _ _) the-loop.page _ the-commit-one.ensures.value the-loop.left (omega (arith, the-loop-test.true))
     c.in-Why.is ∙ the-loop.invariant.5
 
 pub loop-left-smaller : goal.loop-left-smaller
@@ -44,7 +44,7 @@ loop-left-preserved c =
       search rules,
       search rules,
       search rules,
-      each_next (commit_one 4096 _ _ _) the-loop.page _ the-commit-one.ensures.count_after the-loop.left _ (omega (arith, the-loop-test.true))
+      each_next (commit_one 4096 _ _ _) the-loop.page _ the-commit-one.ensures.value the-loop.left _ (omega (arith, the-loop-test.true))
           c.in-Nothing.is ∙ the-loop.invariant.5,
     )
 

@@ -21,7 +21,7 @@ returns-in-Why c =
     let the-read-page = c.read_page-part in
     let the-loop-test = c.loop-left-test in
     let the-loop = c.loop-left in
-    each_stop (read_page 4096 _ _ _ _) the-loop.it _ the-read-page.ensures.buf_after the-loop.left (omega (arith, the-loop-test.true))
+    each_stop (read_page 4096 _ _ _ _) the-loop.it _ the-read-page.ensures.value the-loop.left (omega (arith, the-loop-test.true))
     c.in-Why.is ∙ the-loop.invariant.6
 
 pub loop-left-smaller : goal.loop-left-smaller
@@ -42,7 +42,7 @@ loop-left-preserved c =
       search rules,
       search rules,
       search rules,
-      each_next (read_page 4096 _ _ _ _) the-loop.it _ the-read-page.ensures.buf_after the-loop.left _ (omega (arith, the-loop-test.true))
+      each_next (read_page 4096 _ _ _ _) the-loop.it _ the-read-page.ensures.value the-loop.left _ (omega (arith, the-loop-test.true))
           c.in-Nothing.is ∙ the-loop.invariant.6,
     )
 

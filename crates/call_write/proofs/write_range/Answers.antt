@@ -21,7 +21,7 @@ returns-in-Why c =
     let the-write-page = c.write_page-part in
     let the-loop-test = c.loop-left-test in
     let the-loop = c.loop-left in record {
-      count_after = each_stop (write_page 4096 _ _ _ _ _) the-loop.it _ the-write-page.ensures.count_after the-loop.left (omega (arith, the-loop-test.true))
+      value = each_stop (write_page 4096 _ _ _ _ _) the-loop.it _ the-write-page.ensures.value the-loop.left (omega (arith, the-loop-test.true))
           c.in-Why.is ∙ the-loop.invariant.6;
       fits = the-write-page.ensures.fits.0;
     }
@@ -44,12 +44,12 @@ loop-left-preserved c =
       search rules,
       search rules,
       search rules,
-      each_next (write_page 4096 _ _ _ _ _) the-loop.it _ the-write-page.ensures.count_after the-loop.left _ (omega (arith, the-loop-test.true))
+      each_next (write_page 4096 _ _ _ _ _) the-loop.it _ the-write-page.ensures.value the-loop.left _ (omega (arith, the-loop-test.true))
           c.in-Nothing.is ∙ the-loop.invariant.6,
     )
 
 pub returns : goal.returns
 returns c = record {
-  count_after = each_end (write_page 4096 _ _ _ _ _) c.loop-left.it _ (omega (arith, c.loop-left-test.false)) ∙ c.loop-left.invariant.6;
+  value = each_end (write_page 4096 _ _ _ _ _) c.loop-left.it _ (omega (arith, c.loop-left-test.false)) ∙ c.loop-left.invariant.6;
   fits = c.loop-left.invariant.0;
 }

@@ -13,7 +13,7 @@ returns-in-Ends c =
     let the-take-turn = c.take_turn-next in
     let the-loop = c.loop-levels in
     let the = the-loop.invariant in record {
-      by_index = λ M. climbed_ends the the-take-turn.ensures.by_index c.in-Ends.is M;
+      value = λ M. climbed_ends the the-take-turn.ensures.value c.in-Ends.is M;
       top = the.there;
       hidden = the.veiled;
       low = (the.few, let l = the.low in let f = the.few in omega arith);
@@ -27,7 +27,7 @@ loop-levels-smaller c =
 
 pub loop-levels-preserved : goal.loop-levels-preserved
 loop-levels-preserved c =
-    climbed_next c.loop-levels.invariant c.loop-levels-test.true c.take_turn-next.ensures.by_index c.in-Climbs.is
+    climbed_next c.loop-levels.invariant c.loop-levels-test.true c.take_turn-next.ensures.value c.in-Climbs.is
     (c.take_turn-next.ensures.near _ c.in-Climbs.is) c.is_hidden-hidden.ensures
 
 pub walk_ends-end-requires : goal.walk_ends-end-requires
@@ -36,7 +36,7 @@ walk_ends-end-requires c = let l = c.loop-levels.invariant.low in let f = c.loop
 pub returns : goal.returns
 returns c =
     let the = c.loop-levels.invariant in record {
-      by_index = λ M. climbed_last the c.loop-levels-test.false c.walk_ends-end.ensures M;
+      value = λ M. climbed_last the c.loop-levels-test.false c.walk_ends-end.ensures M;
       top = the.there;
       hidden = the.veiled;
       low = (the.few, let l = the.low in let f = the.few in omega arith);

@@ -4,7 +4,7 @@ use Rattle.page.proofs.reading.read_page.Goals as goal
 
 pub returns-in-Done : goal.returns-in-Done
 returns-in-Done c = record {
-  buf_after = read_none _ _ _ _ _ _ _ _ _ c.next-next.ensures c.in-Done.is;
+  value = read_none _ _ _ _ _ _ _ _ _ c.next-next.ensures c.in-Done.is;
   fits = c.requires;
 }
 
@@ -16,12 +16,12 @@ fetch-requires c = block_small c.args.offset _ c.next-next.ensures c.in-Block.is
 
 pub returns-in-Why : goal.returns-in-Why
 returns-in-Why c = record {
-  buf_after = read_stops _ _ _ _ _ _ _ _ _ c.next-next.ensures c.in-Block.is c.find_read-committed.ensures c.fetch.ensures c.against_read-why.ensures c.in-Why.is;
+  value = read_stops _ _ _ _ _ _ _ _ _ c.next-next.ensures c.in-Block.is c.find_read-committed.ensures c.fetch.ensures c.against_read-why.ensures c.in-Why.is;
   fits = c.requires;
 }
 
 pub returns-in-Nothing : goal.returns-in-Nothing
 returns-in-Nothing c = record {
-  buf_after = read_on _ _ _ _ _ _ _ _ _ c.next-next.ensures c.in-Block.is c.find_read-committed.ensures c.fetch.ensures c.against_read-why.ensures c.in-Nothing.is;
+  value = read_on _ _ _ _ _ _ _ _ _ c.next-next.ensures c.in-Block.is c.find_read-committed.ensures c.fetch.ensures c.against_read-why.ensures c.in-Nothing.is;
   fits = rest_fits c.args.offset _ c.next-next.ensures c.in-Block.is c.requires.0 c.requires.1;
 }

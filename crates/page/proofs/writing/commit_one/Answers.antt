@@ -8,12 +8,12 @@ commit_page-step-requires c = asked_low c.of-ask.ensures (let l = c.requires in 
 
 pub returns-in-Why : goal.returns-in-Why
 returns-in-Why c = record {
-  count_after = commit_stops _ _ _ _ _ (asked_leaf c.of-ask.ensures _ _ _ _ _ _ c.commit_page-step.ensures) c.against_write-why.ensures c.in-Why.is;
+  value = commit_stops _ _ _ _ _ (asked_leaf c.of-ask.ensures _ _ _ _ _ _ c.commit_page-step.ensures) c.against_write-why.ensures c.in-Why.is;
   near = omega arith;
 }
 
 pub returns-in-Nothing : goal.returns-in-Nothing
 returns-in-Nothing c = record {
-  count_after = commit_on _ _ _ _ _ (asked_leaf c.of-ask.ensures _ _ _ _ _ _ c.commit_page-step.ensures) c.against_write-why.ensures c.in-Nothing.is;
+  value = commit_on _ _ _ _ _ (asked_leaf c.of-ask.ensures _ _ _ _ _ _ c.commit_page-step.ensures) c.against_write-why.ensures c.in-Nothing.is;
   near = omega arith;
 }

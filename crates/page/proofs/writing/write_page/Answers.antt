@@ -5,7 +5,7 @@ use Rattle.page.proofs.writing.write_page.Goals as goal
 
 pub returns-in-Done : goal.returns-in-Done
 returns-in-Done c = record {
-  count_after = write-none _ _ _ _ _ _ _ c.next-next.ensures c.in-Done.is;
+  value = write-none _ _ _ _ _ _ _ c.next-next.ensures c.in-Done.is;
   fits = c.requires;
 }
 
@@ -20,12 +20,12 @@ store-requires c = block_small c.args.offset _ c.next-next.ensures c.in-Block.is
 
 pub returns-in-Why : goal.returns-in-Why
 returns-in-Why c = record {
-  count_after = write_stops _ _ _ _ _ _ _ c.next-next.ensures c.in-Block.is (asked_leaf c.of-ask.ensures _ _ _ _ _ _ c.commit_page-step.ensures) (c.store.ensures _ _ _) c.against_write-why.ensures c.in-Why.is;
+  value = write_stops _ _ _ _ _ _ _ c.next-next.ensures c.in-Block.is (asked_leaf c.of-ask.ensures _ _ _ _ _ _ c.commit_page-step.ensures) (c.store.ensures _ _ _) c.against_write-why.ensures c.in-Why.is;
   fits = c.requires;
 }
 
 pub returns-in-Nothing : goal.returns-in-Nothing
 returns-in-Nothing c = record {
-  count_after = write_on _ _ _ _ _ _ _ c.next-next.ensures c.in-Block.is (asked_leaf c.of-ask.ensures _ _ _ _ _ _ c.commit_page-step.ensures) (c.store.ensures _ _ _) c.against_write-why.ensures c.in-Nothing.is;
+  value = write_on _ _ _ _ _ _ _ c.next-next.ensures c.in-Block.is (asked_leaf c.of-ask.ensures _ _ _ _ _ _ c.commit_page-step.ensures) (c.store.ensures _ _ _) c.against_write-why.ensures c.in-Nothing.is;
   fits = rest_fits c.args.offset _ c.next-next.ensures c.in-Block.is c.requires.0 c.requires.1;
 }
