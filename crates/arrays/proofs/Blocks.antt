@@ -12,7 +12,7 @@ use Rattle.logic.specs.Pick.{pick}
 use Rattle.logic.proofs.Means.{less, equal, split}
 use Rattle.blocks.specs.declared.BlockIter.{BlockIter}
 use Rattle.blocks.specs.declared.BlockRange.{BlockRange}
-use Rattle.blocks.specs.declared.Next.TheVariants.{Block}
+use Rattle.std.specs.Prelude.{Some}
 use Rattle.blocks.specs.Blocks.{pages_of, iter_of, range_of, block_end, next_by, next_of, count_of}
 
 -- the first block of a range, and what is left
@@ -30,7 +30,7 @@ pub record First (L : ℕ) (it : BlockIter) (b : BlockRange) (rest : BlockIter) 
 pub record Cut (L : ℕ) (it : BlockIter) : Type 0 where
   pub block : BlockRange
   pub rest : BlockIter
-  pub next : next_of L it ≡ Block block rest
+  pub next : next_of L it ≡ Some (block, rest)
   pub first : First L it block rest
 
 -- an empty range has no blocks, and a range that has some is not empty

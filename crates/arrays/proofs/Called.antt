@@ -1,4 +1,5 @@
 -- A call on an object of a sound pool: refused by its tests, or it goes on with the object. Assumes nothing.
+use Rattle.std.specs.Prelude.{Err, Ok}
 use mathlib.Core.Path.{◌≡◌, refl}
 use mathlib.Core.Bool.{Bool, true, false}
 use mathlib.Core.List.{List}
@@ -13,9 +14,7 @@ use Rattle.sound.specs.Sound.{sound}
 use Rattle.sound.specs.Facts.{Leaf}
 use Rattle.outcome.specs.declared.answer.Refusal.{Refusal}
 use Rattle.outcome.specs.declared.answer.Refusal.TheVariants.{NoObject}
-use Rattle.outcome.specs.declared.answer.Against.{Against}
-use Rattle.outcome.specs.declared.answer.Against.TheVariants.{Why, Nothing as Fine}
-use Rattle.outcome.specs.Answers.{unless}
+use Rattle.outcome.specs.Answers.{unless, Checked}
 use Rattle.pool.specs.Calls.{on_object}
 use Rattle.pool.proofs.Laws.{on_leaf}
 use Rattle.outcome.specs.Room.{room_of}
@@ -25,11 +24,11 @@ use Rattle.arrays.specs.Calls.Called.{tested, accepted}
 
 -- tests that hold, or refuse by a reason of their own; H is what they found
 
-abbrev pub Tests : Against → Type 0 → Type 0
-Tests (Why r) H = ByTests r
-Tests Fine H = H
+abbrev pub Tests : Checked → Type 0 → Type 0
+Tests (Err r) H = ByTests r
+Tests (Ok u) H = H
 
-pub tests_pick : (H : Type 0) (b : Bool) (x y : Against) → (b ≡ true → Tests x H) → (b ≡ false → Tests y H) → Tests (pick b x y) H
+pub tests_pick : (H : Type 0) (b : Bool) (x y : Checked) → (b ≡ true → Tests x H) → (b ≡ false → Tests y H) → Tests (pick b x y) H
 tests_pick H true x y f g = f refl
 tests_pick H false x y f g = g refl
 
@@ -59,11 +58,11 @@ both s e = let z : ◌≡◌ {A = ℕ} 0 1 = cc in absurd (omega arith)
 -- the object's own node
 
 module _ {R : Type 0} (refuse : Refusal → R) (W : R → Type 0) where
-  unless_by : (H : Type 0) (a : Against) (go : R) → Tests a H → (H → W go) → Called refuse W (unless a refuse go)
-  unless_by H (Why r) go t f = tested r t refl
-  unless_by H Fine go t f = accepted (f t)
+  unless_by : (H : Type 0) (a : Checked) (go : R) → Tests a H → (H → W go) → Called refuse W (unless a refuse go)
+  unless_by H (Err r) go t f = tested r t refl
+  unless_by H (Ok u) go t f = accepted (f t)
 
-  pub called : (H : Type 0) (L : ℕ) (p : Pool) (object : ℕ) (against : ℕ → Against) (go : ℕ → R) → sound L p ≡ true → Tests (against object) H → (Leaf p.nodes object → H → W (go object))
+  pub called : (H : Type 0) (L : ℕ) (p : Pool) (object : ℕ) (against : ℕ → Checked) (go : ℕ → R) → sound L p ≡ true → Tests (against object) H → (Leaf p.nodes object → H → W (go object))
       → Called refuse W (on_object L p object refuse (λ n. unless (against n) refuse (go n)))
   called H L p object against go s t f =
       on_leaf (Called refuse W) L p object refuse (λ n. unless (against n) refuse (go n))

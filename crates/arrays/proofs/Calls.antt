@@ -1,11 +1,11 @@
 -- The calls read, write and commit on any object and range: what they answer, and that every array is kept but for the bytes written. Assumes nothing.
+use Rattle.outcome.specs.Answers.{Answer}
 use mathlib.Core.Path.{◌≡◌, sym}
 use mathlib.Core.Bool.{true}
 use mathlib.Core.List.{List, []}
 use Prim.Native.Nat.{ℕ}
 use lib.ListN.{length}
 use Rattle.tables.specs.Pool.{Pool}
-use Rattle.outcome.specs.declared.answer.Answer.{Answer}
 use Rattle.outcome.specs.Outcome.{Outcome, refused}
 use Rattle.sound.specs.Sound.{sound}
 use Rattle.page.specs.Pages.{read_of}

@@ -1,4 +1,6 @@
 -- A write and a read computed on small tables, with the numbers that the theorems speak of: a guard against a wrong word. Assumes nothing.
+use Rattle.std.specs.Prelude.{Err}
+use Rattle.outcome.specs.Answers.{Answer}
 use mathlib.Core.Path.{◌≡◌, refl}
 use mathlib.Core.List.{[], ◌∷◌}
 use Prim.Native.Nat.{ℕ}
@@ -16,9 +18,7 @@ use Rattle.lookup.specs.Level.{cleared, fresh_by, fresh_in, leaf_told, serve, pa
 use Rattle.lookup.specs.Lookup.{enter_by, look_in}
 use Rattle.lookup.specs.Descent.{walk}
 use Rattle.lookup.specs.Commit.{commit_leaf}
-use Rattle.outcome.specs.declared.answer.Answer.TheVariants.{Refused}
 use Rattle.outcome.specs.declared.answer.Refusal.TheVariants.{NoMemory}
-use Rattle.outcome.specs.declared.answer.Answer.{Answer}
 use Rattle.outcome.specs.Outcome.{Outcome}
 use Rattle.page.specs.Each.{onward, each}
 use Rattle.page.specs.Pages.{stored_by, wrote_page, write_by, write_page, read_of, fetched_by, look_read, read_through, read_by, read_page}
@@ -42,7 +42,7 @@ three_frames : needs pool.nodes pool.pages 0 0 3 ≡ 3
 unfolding pool needs sum_below need_in price_of due_of walk asks node_of record_of word_of slot_at slot_of state_of tag_of entry_of out_of side_of child_of
 three_frames = refl
 
-two-written : (run.answer ≡ Refused NoMemory) × (◌≡◌ {A = ℕ} run.done 5) × (◌≡◌ {A = ℕ} run.taken 2) × (run.pool.memory ≡ 0 ∷ 0 ∷ 0 ∷ 1 ∷ 2 ∷ 3 ∷ 4 ∷ 5 ∷ [])
+two-written : (run.answer ≡ Err NoMemory) × (◌≡◌ {A = ℕ} run.done 5) × (◌≡◌ {A = ℕ} run.taken 2) × (run.pool.memory ≡ 0 ∷ 0 ∷ 0 ∷ 1 ∷ 2 ∷ 3 ∷ 4 ∷ 5 ∷ [])
 unfolding run pool write_through written ranged_by write_range each onward write_page write_by wrote_page stored_by next_of next_by block_end count_of pages_of commit_leaf look_in enter_by asks fresh_in fresh_by cleared serve leaf_told pass_by node_of record_of word_of slot_at slot_of state_of tag_of entry_of with_entry with_state entry_word out_of idle_of one_idle free_count free_frame_in first_from sum_below pasted_at copied blank_at cleared_at zeroed
 two-written = (refl, refl, refl, refl)
 

@@ -1,4 +1,5 @@
 -- The answer of a call by how its run of pages ended. Assumes nothing.
+use Rattle.outcome.specs.Answers.{Checked}
 use mathlib.Core.Path.{◌≡◌}
 use mathlib.Core.Logic.{◌⊎◌, inl, inr}
 use Prim.Native.Nat.{ℕ, suc, ◌+◌, ◌-◌, ◌≤◌, ◌<◌}
@@ -7,13 +8,12 @@ use native.Mathlib.Numerals.{add-one}
 use Rattle.tables.specs.Pool.{Pool}
 use Rattle.lookup.specs.Work.{Work}
 use Rattle.frames.specs.Frames.{free_count}
-use Rattle.outcome.specs.declared.answer.Against.{Against}
 use Rattle.ranges.specs.Ranges.{ranged_by}
 use Rattle.arrays.specs.Outcomes.{Granted, Short}
 use Rattle.arrays.proofs.Spent.{sum, needs_grow, Out, Ending}
 use Rattle.arrays.proofs.Spent.Ending.{all, out}
 
-module _ (p : Pool) (n first pages : ℕ) (why : Against) (done value : ℕ) (w : Work) (doneBy : ℕ → ℕ) where
+module _ (p : Pool) (n first pages : ℕ) (why : Checked) (done value : ℕ) (w : Work) (doneBy : ℕ → ℕ) where
   -- a prefix that needs too many leaves the whole needing too many
   short_all : (d : ℕ) → Out p n first pages w.used d → free_count p.used < sum p n first pages
   short_all d o =

@@ -1,4 +1,6 @@
 -- A commit of pages keeps every array, and is refused exactly if the pages need more frames than are free. Assumes nothing.
+use Rattle.std.specs.Prelude.{Ok, Some, None, Err}
+use Rattle.outcome.specs.Answers.{Checked}
 use mathlib.Core.Path.{◌≡◌, refl, sym, ap, subst}
 use mathlib.Core.Bool.{true}
 use mathlib.Core.List.{List}
@@ -9,13 +11,9 @@ use native.Mathlib.Nat.{div-mul-le_self, div-zero, add-mul, le_of_mul-le-mul_rig
 use Rattle.logic.proofs.Means.{less, split}
 use Rattle.tables.specs.Pool.{Pool}
 use Rattle.tables.specs.Tables.{node_of}
-use Rattle.lookup.specs.declared.Committed.{Committed}
-use Rattle.lookup.specs.declared.Committed.TheVariants.{Frame, ZeroFrame, Refused}
 use Rattle.lookup.specs.Work.{Work}
-use Rattle.lookup.specs.Commit.{committing_of, commit_leaf}
+use Rattle.lookup.specs.Commit.{committing_of, commit_leaf, Committed}
 use Rattle.sound.specs.Facts.{Leaf}
-use Rattle.outcome.specs.declared.answer.Against.{Against}
-use Rattle.outcome.specs.declared.answer.Against.TheVariants.{Why, Nothing as Fine}
 use Rattle.page.specs.Each.{Part, part_of}
 use Rattle.page.specs.Pages.{against_write, rest_by, committed_one, commit_one}
 use Rattle.ranges.specs.Ranges.{start_work, ranged_by, commit_range, committed, commit_through}
@@ -42,16 +40,16 @@ module _ (L : ℕ) (A : ℕ → ℕ → ℕ → ℕ) (p : Pool) (n first pages :
     private : Private L A (pool_with p r.state)
     ends : Ending p n first pages r.why r.state.used (Unit {0}) (λ d. Unit {0})
 
-  abbrev Next : ℕ → Against → Part ℕ Work → Type 0
+  abbrev Next : ℕ → Checked → Part ℕ Work → Type 0
   Next k a q = Goes (commit_one L p.nodes p.mappings n) Before After k a q
 
   turn_by_lem : (k d : ℕ) (w : Work) → d + suc k ≡ pages → Private L A (pool_with p w) → Spent p n first d w → (z : Committed) (v : Work) → Kept L A (pool_with p w) w.told n (first + d) true (committing_of z v)
       → Next k (against_write z) (part_of (against_write z) (rest_by (against_write z) (first + d) (first + d + 1)) v)
-  turn_by_lem k d w e P s (Frame f) v K =
-      record { done = suc d; here = omega arith; all_pages = omega arith; private = K.private; spent = spent_more p n first L A d w P s (committing_of (Frame f) v) K K.answers }
-  turn_by_lem k d w e P s (Refused r) v K =
-      record { private = K.private; ends = out d (ap Why K.answers.answer) (spent_out p n first L A d w P s (committing_of (Refused r) v) K pages (omega arith) K.answers) tt }
-  turn_by_lem k d w e P s ZeroFrame v K = true_not refl K.answers.reading
+  turn_by_lem k d w e P s (Ok (Some f)) v K =
+      record { done = suc d; here = omega arith; all_pages = omega arith; private = K.private; spent = spent_more p n first L A d w P s (committing_of (Ok (Some f)) v) K K.answers }
+  turn_by_lem k d w e P s (Err r) v K =
+      record { private = K.private; ends = out d (ap Err K.answers.answer) (spent_out p n first L A d w P s (committing_of (Err r) v) K pages (omega arith) K.answers) tt }
+  turn_by_lem k d w e P s (Ok None) v K = true_not refl K.answers.reading
 
   turn : (k i : ℕ) (w : Work) → Before (suc k) i w → Next k (commit_one L p.nodes p.mappings n i w).why (commit_one L p.nodes p.mappings n i w)
   unfolding commit_one committed_one
@@ -62,7 +60,7 @@ module _ (L : ℕ) (A : ℕ → ℕ → ℕ → ℕ) (p : Pool) (n first pages :
       (let l = commit_leaf L p.nodes p.mappings w n (first + d) true in
       turn_by_lem k d w m b.private b.spent l.answer l.work (look_goes_on L A p w b.private n (first + d) true leaf (omega arith)))
 
-  ends : (i : ℕ) (w : Work) → Before 0 i w → After (part_of Fine i w)
+  ends : (i : ℕ) (w : Work) → Before 0 i w → After (part_of (Ok tt) i w)
   ends i w b =
       let e : b.done ≡ pages = let m = b.all_pages in omega arith in
       record { private = b.private; ends = all refl (rw e at b.spent.frames) tt }

@@ -1,4 +1,6 @@
 -- Reads, writes and commits of pages keep a sound pool's tables sound, refused or not. Assumes nothing.
+use Rattle.std.specs.Prelude.{Ok as Gave, Some, None, Err}
+use Rattle.outcome.specs.Answers.{Checked}
 use mathlib.Core.Path.{◌≡◌, refl, ◌∙◌}
 use mathlib.Core.Bool.{Bool, true, false}
 use mathlib.Core.List.{List}
@@ -17,13 +19,9 @@ use Rattle.tables.specs.Pool.{Pool}
 use Rattle.tables.specs.Tables.{node_of}
 use Rattle.frames.specs.Frames.{pasted_at}
 use Rattle.outcome.specs.Told.{Told}
-use Rattle.lookup.specs.declared.Committed.{Committed}
-use Rattle.lookup.specs.declared.Committed.TheVariants.{Frame, ZeroFrame, Refused}
 use Rattle.lookup.specs.Work.{Work, work_of}
-use Rattle.lookup.specs.Commit.{commit_leaf}
+use Rattle.lookup.specs.Commit.{commit_leaf, Committed}
 use Rattle.sound.specs.Facts.{Leaf, Sound}
-use Rattle.outcome.specs.declared.answer.Against.{Against}
-use Rattle.outcome.specs.declared.answer.Against.TheVariants.{Why, Nothing as Fine}
 use Rattle.page.specs.Each.{part_of}
 use Rattle.page.specs.Pages.{against_write, against_read, rest_by, stored_by, wrote_page, write_by, write_page, committed_one, commit_one, Read, look_read, read_through, read_by, read_page}
 use Rattle.ranges.specs.Ranges.{read_range, write_range, commit_range}
@@ -88,10 +86,10 @@ module _ (L : ℕ) (p : Pool) (s : Sound L p) where
 
   stored_fits : (bytes : List ℕ) (from : ℕ) (b : BlockRange) (z : Committed) (w : Work) → Fits w → Fits (stored_by L bytes from b z w)
   unfolding stored_by
-  stored_fits bytes from b (Frame f) w o =
+  stored_fits bytes from b (Gave (Some f)) w o =
       record { few = o.few; pages = o.pages; used = o.used; memory = pasted_length w.memory (f * L + b.begin) bytes from (b.end - b.begin) ∙ o.memory; entries = o.entries }
-  stored_fits bytes from b ZeroFrame w o = o
-  stored_fits bytes from b (Refused r) w o = o
+  stored_fits bytes from b (Gave None) w o = o
+  stored_fits bytes from b (Err r) w o = o
 
   module _ (n : ℕ) (leaf : Leaf p.nodes n) where
     -- commit, page by page
@@ -103,9 +101,9 @@ module _ (L : ℕ) (p : Pool) (s : Sound L p) where
         let l = commit_leaf L p.nodes p.mappings w n i true in
         by (against_write l.answer) l.work (look_fits w o true n i leaf (omega arith))
       where
-        by : (a : Against) (v : Work) → Fits v → Goes (commit_one L p.nodes p.mappings n) (λ k i w. (i + k ≤ (node_of p.nodes n).size) × Fits w) (λ r. Fits r.state) k a (part_of a (rest_by a i (i + 1)) v)
-        by (Why r) v f = f
-        by Fine v f = (omega arith, f)
+        by : (a : Checked) (v : Work) → Fits v → Goes (commit_one L p.nodes p.mappings n) (λ k i w. (i + k ≤ (node_of p.nodes n).size) × Fits w) (λ r. Fits r.state) k a (part_of a (rest_by a i (i + 1)) v)
+        by (Err r) v f = f
+        by (Gave tt) v f = (omega arith, f)
 
     pub commit_fits : (first pages : ℕ) → first + pages ≤ (node_of p.nodes n).size → (w : Work) → Fits w → Fits (commit_range L p.nodes p.mappings n first pages w).state
     unfolding commit_range
@@ -113,9 +111,9 @@ module _ (L : ℕ) (p : Pool) (s : Sound L p) where
         each_keeps (commit_one L p.nodes p.mappings n) (λ k i w. (i + k ≤ (node_of p.nodes n).size) × Fits w) (λ r. Fits r.state) (λ i w b. b.1) commit-turn pages first w (low, o)
 
     module _ (offset len : ℕ) (inside : offset + len ≤ (node_of p.nodes n).size * L) where
-      rest_end : (a : Against) (it next : BlockIter) → it.end ≡ offset + len → next.end ≡ it.end → (rest_by a it next).end ≡ offset + len
-      rest_end (Why r) it next e f = e
-      rest_end Fine it next e f = f ∙ e
+      rest_end : (a : Checked) (it next : BlockIter) → it.end ≡ offset + len → next.end ≡ it.end → (rest_by a it next).end ≡ offset + len
+      rest_end (Err r) it next e f = e
+      rest_end (Gave tt) it next e f = f ∙ e
 
       -- write, block by block
       write-turn : (bytes : List ℕ) (it : BlockIter) (w : Work) → (it.end ≡ offset + len) × Fits w

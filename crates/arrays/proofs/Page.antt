@@ -1,4 +1,6 @@
 -- commit_page keeps every array; it is refused exactly if the page is to be written and needs more frames than are free. Assumes nothing.
+use Rattle.std.specs.Prelude.{Ok, Some, None, Err}
+use Rattle.outcome.specs.Answers.{Answer}
 use mathlib.Core.Path.{refl, ap}
 use mathlib.Core.Bool.{Bool}
 use mathlib.Core.List.{List, []}
@@ -10,14 +12,10 @@ use borrow.Author.Tests.{leb-false}
 use Rattle.tables.specs.Pool.{Pool}
 use Rattle.tables.specs.Tables.{node_of}
 use Rattle.outcome.specs.Told.{told_of}
-use Rattle.lookup.specs.declared.Committed.{Committed}
-use Rattle.lookup.specs.declared.Committed.TheVariants as K
 use Rattle.lookup.specs.Work.{Work, work_of}
-use Rattle.lookup.specs.Commit.{committing_of, commit_leaf}
+use Rattle.lookup.specs.Commit.{committing_of, commit_leaf, Committed}
 use Rattle.sound.specs.Facts.{Leaf}
 use Rattle.outcome.specs.Room.{room_of}
-use Rattle.outcome.specs.declared.answer.Answer.{Answer}
-use Rattle.outcome.specs.declared.answer.Answer.TheVariants.{Refused as Denied}
 use Rattle.outcome.specs.Outcome.{Outcome, refused}
 use Rattle.commit.specs.Commit.{page_refusal, committed_outcome, commit_page_at, commit_page}
 use Rattle.isolation.specs.Private.{Private}
@@ -41,10 +39,10 @@ page_tests N M list n page write =
 module _ (L : ℕ) (A : ℕ → ℕ → ℕ → ℕ) (p : Pool) (P : Private L A p) (list : List ℕ) (n page : ℕ) (write : Bool) where
   ends_by : (z : Committed) (w : Work) → Answered L p (told_of list 0) n page (A n page) write z w
       → Frame L A p n page write (committed_outcome p (committing_of z w)) ⊎ (ZeroFrame L A p n page write (committed_outcome p (committing_of z w)) ⊎ NoFrame p n page write (committed_outcome p (committing_of z w)))
-  ends_by (K.Frame f) w a =
+  ends_by (Ok (Some f)) w a =
       inl (record { frame = f; answer = refl; bytes = a.bytes; enough = λ k. let q = a.taken k in omega arith; taken = a.taken; untaken = a.untaken })
-  ends_by K.ZeroFrame w a = inr (inl (record { answer = refl; reading = a.reading; bytes = a.bytes; same = ap (pool_with p) a.same }))
-  ends_by (K.Refused r) w a = inr (inr (record { answer = ap Denied a.answer; writing = a.writing; short = a.short; none = none_free w.used a.no_frame }))
+  ends_by (Ok None) w a = inr (inl (record { answer = refl; reading = a.reading; bytes = a.bytes; same = ap (pool_with p) a.same }))
+  ends_by (Err r) w a = inr (inr (record { answer = ap Err a.answer; writing = a.writing; short = a.short; none = none_free w.used a.no_frame }))
 
   pub page_through : Leaf p.nodes n → page < (node_of p.nodes n).size
       → Page L A p n page write (committed_outcome p (commit_leaf L p.nodes p.mappings (work_of p.pages p.used p.memory (told_of list 0)) n page write))

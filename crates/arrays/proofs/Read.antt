@@ -1,4 +1,6 @@
 -- A read gives the bytes of its object's array and changes none. Assumes nothing.
+use Rattle.std.specs.Prelude.{Option, Ok, Some, None, Err}
+use Rattle.outcome.specs.Answers.{Checked}
 use mathlib.Core.Path.{◌≡◌, refl, sym, ap, ◌∙◌, subst}
 use mathlib.Core.Bool.{false}
 use mathlib.Core.List.{List, []}
@@ -7,19 +9,14 @@ use native.Mathlib.Omega.{arith}
 use lib.ListN.{length}
 use Rattle.blocks.specs.declared.BlockIter.{BlockIter}
 use Rattle.blocks.specs.declared.BlockRange.{BlockRange}
-use Rattle.blocks.specs.declared.Next.{Next}
 use Rattle.blocks.specs.Blocks.{iter_of, count_of}
 use Rattle.tables.specs.Pool.{Pool}
 use Rattle.tables.specs.Tables.{node_of}
 use Rattle.frames.specs.Frames.{pasted_at, blank_at}
 use Rattle.outcome.specs.Told.{told_of}
-use Rattle.lookup.specs.declared.Committed.{Committed}
-use Rattle.lookup.specs.declared.Committed.TheVariants.{Frame, ZeroFrame, Refused}
 use Rattle.lookup.specs.Work.{Work, work_of}
-use Rattle.lookup.specs.Commit.{committing_of, commit_leaf}
+use Rattle.lookup.specs.Commit.{committing_of, commit_leaf, Committed}
 use Rattle.sound.specs.Facts.{Leaf}
-use Rattle.outcome.specs.declared.answer.Against.{Against}
-use Rattle.outcome.specs.declared.answer.Against.TheVariants.{Nothing as Fine}
 use Rattle.page.specs.Each.{Part, part_of}
 use Rattle.page.specs.Pages.{against_read, fetched_by, rest_by, Read, read_of, look_read, read_through, read_by, read_page}
 use Rattle.ranges.specs.Ranges.{read_range, filled}
@@ -52,7 +49,7 @@ module _ (L : ℕ) (A : ℕ → ℕ → ℕ → ℕ) (p : Pool) (n offset size :
     bytes : Filling L offset (A n) s.buf (it.begin - offset)
 
   record After (r : Part BlockIter Read) : Type 0 where
-    why : r.why ≡ Fine
+    why : r.why ≡ Ok tt
     private : Private L A (pool_with p (work_for r.state))
     used : r.state.used ≡ p.used
     memory : r.state.memory ≡ p.memory
@@ -62,7 +59,7 @@ module _ (L : ℕ) (A : ℕ → ℕ → ℕ → ℕ) (p : Pool) (n offset size :
   abbrev step : BlockIter → Read → Part BlockIter Read
   step = read_page L p.nodes p.mappings n offset
 
-  abbrev After-turn : ℕ → Against → Part BlockIter Read → Type 0
+  abbrev After-turn : ℕ → Checked → Part BlockIter Read → Type 0
   After-turn k a q = Goes step Before After k a q
 
   module _ (k : ℕ) (it : BlockIter) (s : Read) (B : Before (suc k) it s) (b : BlockRange) (next : BlockIter) (F : First L it b next) where
@@ -94,7 +91,7 @@ module _ (L : ℕ) (A : ℕ → ℕ → ℕ → ℕ) (p : Pool) (n offset size :
     turn_by_lem : (z : Committed) (v : Work) → v.memory ≡ s.memory → Kept L A (pool_with p (work_for s)) (told_of [] 0) n b.block false (committing_of z v)
         → After-turn k (against_read z) (part_of (against_read z) (rest_by (against_read z) it next) (read_of v.pages v.used v.memory (fetched_by L (it.begin - offset) b z v.memory s.buf)))
     unfolding fetched_by
-    turn_by_lem (Frame f) v m K =
+    turn_by_lem (Ok (Some f)) v m K =
         let a = F.starts in
         let c = F.goes_on in
         let x = F.some in
@@ -111,7 +108,7 @@ module _ (L : ℕ) (A : ℕ → ℕ → ℕ → ℕ) (p : Pool) (n offset size :
         (pasted_length s.buf (it.begin - offset) v.memory (f * L + b.begin) (b.end - b.begin) room (omega arith))
         (pasted_fills L offset (A n) s.buf (it.begin - offset) (b.end - b.begin) b.block b.begin room (omega arith) (omega arith) B.bytes v.memory (f * L + b.begin) (omega arith)
         (λ j d. let i : f * L + b.begin + j ≡ f * L + (b.begin + j) = omega arith in rw i (g.bytes (b.begin + j) (omega arith))))
-    turn_by_lem ZeroFrame v m K =
+    turn_by_lem (Ok None) v m K =
         let a = F.starts in
         let c = F.goes_on in
         let x = F.some in
@@ -126,7 +123,7 @@ module _ (L : ℕ) (A : ℕ → ℕ → ℕ → ℕ) (p : Pool) (n offset size :
         (blank-length L offset (A n) s.buf (it.begin - offset) (b.end - b.begin) b.block b.begin room (omega arith) (omega arith) B.bytes)
         (blank_fills L offset (A n) s.buf (it.begin - offset) (b.end - b.begin) b.block b.begin room (omega arith) (omega arith) B.bytes
         (λ j d. g.bytes (b.begin + j) (omega arith)))
-    turn_by_lem (Refused r) v m K = true_not K.answers.writing refl
+    turn_by_lem (Err r) v m K = true_not K.answers.writing refl
 
   turn : (k : ℕ) (it : BlockIter) (s : Read) → Before (suc k) it s → After-turn k (step it s).why (step it s)
   unfolding read_page read_by read_through look_read
@@ -135,13 +132,13 @@ module _ (L : ℕ) (A : ℕ → ℕ → ℕ → ℕ) (p : Pool) (n offset size :
       let e = B.end in
       let c = cut L (some_length L (node_of p.nodes n).size it.begin it.end l (omega arith)) it l in
       let b = c.block in
-      subst (λ (x : Next). After-turn k (read_by L p.nodes p.mappings n offset it s x).why (read_by L p.nodes p.mappings n offset it s x)) (sym c.next)
+      subst (λ (x : Option (BlockRange × BlockIter)). After-turn k (read_by L p.nodes p.mappings n offset it s x).why (read_by L p.nodes p.mappings n offset it s x)) (sym c.next)
       (let r = commit_leaf L p.nodes p.mappings (work_for s) n b.block false in
       turn_by_lem k it s B b c.rest c.first r.answer r.work (commit-quiet L p.nodes p.mappings (work_for s) n b.block).1
       (look_goes_on L A p (work_for s) B.private n b.block false leaf
       (block_inside L offset size (node_of p.nodes n).size it b c.rest c.first l B.end inside)))
 
-  ends : (it : BlockIter) (s : Read) → Before 0 it s → After (part_of Fine it s)
+  ends : (it : BlockIter) (s : Read) → Before 0 it s → After (part_of (Ok tt) it s)
   ends it s B =
       let x = B.to in
       let y = B.end in

@@ -1,5 +1,7 @@
 -- Pages one after the other send no more notices than each may send, times the pages, and which these are doesn't depend on the list. Assumes
 -- nothing.
+use Rattle.std.specs.Prelude.{Option, Ok, Some, None, Err}
+use Rattle.outcome.specs.Answers.{Checked}
 use mathlib.Core.Path.{◌≡◌, refl, ap, sym, ◌∙◌}
 use mathlib.Core.Bool.{true}
 use mathlib.Core.List.{List, [], ◌++◌}
@@ -8,20 +10,14 @@ use native.Mathlib.Omega.{arith}
 use lib.ListN.{length, length-append}
 use Rattle.blocks.specs.declared.BlockIter.{BlockIter}
 use Rattle.blocks.specs.declared.BlockRange.{BlockRange}
-use Rattle.blocks.specs.declared.Next.{Next}
-use Rattle.blocks.specs.declared.Next.TheVariants.{Block, Done}
 use Rattle.blocks.specs.Blocks.{next_of}
 use Rattle.tables.specs.Pool.{Pool}
 use Rattle.outcome.specs.declared.notice.Notice.{Notice}
 use Rattle.outcome.specs.Told.{Told}
-use Rattle.lookup.specs.declared.Committed.{Committed}
-use Rattle.lookup.specs.declared.Committed.TheVariants.{Frame, ZeroFrame, Refused}
 use Rattle.lookup.specs.Work.{Work, work_of}
 use Rattle.lookup.specs.Level.{with_told}
-use Rattle.lookup.specs.Commit.{Committing}
+use Rattle.lookup.specs.Commit.{Committing, Committed}
 use Rattle.sound.specs.Facts.{Leaf, Sound}
-use Rattle.outcome.specs.declared.answer.Against.{Against}
-use Rattle.outcome.specs.declared.answer.Against.TheVariants.{Why, Nothing as Fine}
 use Rattle.outcome.specs.Room.{live_count}
 use Rattle.page.specs.Each.{Part, part_of, onward, each}
 use Rattle.page.specs.Pages.{against_write, rest_by, stored_by, wrote_page, write_by, write_page, committed_one, commit_one}
@@ -31,7 +27,7 @@ use Rattle.bounds.proofs.Room.{room_enough}
 
 -- what pages leave: notices named before the list is, at most so many; nothing else depends on the list
 pub record Passes {C : Type 0} (step : Told → Part C Work) (most : ℕ) : Type 0 where
-  pub why : Against
+  pub why : Checked
   pub rest : C
   pub work : Work
   pub notices : List Notice
@@ -41,13 +37,13 @@ pub record Passes {C : Type 0} (step : Told → Part C Work) (most : ℕ) : Type
 -- one page after the other
 
 module _ {C : Type 0} (step : C → Work → Part C Work) (most : ℕ) where
-  after_passes : (k : ℕ) → ((c : C) (w : Work) → Passes (λ t. each step k c (with_told w t)) (k * most)) → (a : Against) (c : C) (w : Work) (ns : List Notice) → length ns ≤ most
+  after_passes : (k : ℕ) → ((c : C) (w : Work) → Passes (λ t. each step k c (with_told w t)) (k * most)) → (a : Checked) (c : C) (w : Work) (ns : List Notice) → length ns ≤ most
       → Passes (λ t. onward a (part_of a c (with_told w (put_all t ns))) (each step k)) (suc k * most)
   unfolding onward
-  after_passes k go (Why r) c w ns f =
+  after_passes k go (Err r) c w ns f =
       let e : suc k * most ≡ most + k * most = omega arith in
-      record { why = Why r; rest = c; work = w; notices = ns; few = omega arith; same = λ t. refl }
-  after_passes k go Fine c w ns f =
+      record { why = Err r; rest = c; work = w; notices = ns; few = omega arith; same = λ t. refl }
+  after_passes k go (Ok u) c w ns f =
       let g = go c w in
       let h = g.few in
       let e : suc k * most ≡ most + k * most = omega arith in
@@ -63,7 +59,7 @@ module _ {C : Type 0} (step : C → Work → Part C Work) (most : ℕ) where
 
   pub each_passes : ((c : C) (w : Work) → Passes (λ t. step c (with_told w t)) most) → (k : ℕ) (c : C) (w : Work) → Passes (λ t. each step k c (with_told w t)) (k * most)
   unfolding each put_all
-  each_passes turn zero c w = record { why = Fine; rest = c; work = w; notices = []; few = omega arith; same = λ t. refl }
+  each_passes turn zero c w = record { why = (Ok tt); rest = c; work = w; notices = []; few = omega arith; same = λ t. refl }
   each_passes turn (suc k) c w =
       let s = turn c w in
       let g = after_passes k (each_passes turn k) s.why s.rest s.work s.notices s.few in
@@ -80,17 +76,17 @@ module _ {C : Type 0} (step : C → Work → Part C Work) (most : ℕ) where
 
 stored_told : (L : ℕ) (bytes : List ℕ) (from : ℕ) (b : BlockRange) (z : Committed) (w : Work) (t : Told) → stored_by L bytes from b z (with_told w t) ≡ with_told (stored_by L bytes from b z w) t
 unfolding stored_by
-stored_told L bytes from b (Frame f) w t = refl
-stored_told L bytes from b ZeroFrame w t = refl
-stored_told L bytes from b (Refused r) w t = refl
+stored_told L bytes from b (Ok (Some f)) w t = refl
+stored_told L bytes from b (Ok None) w t = refl
+stored_told L bytes from b (Err r) w t = refl
 
 -- one page of a write and of a commit
 
 module _ (L : ℕ) (p : Pool) (sound : Sound L p) (n : ℕ) (leaf : Leaf p.nodes n) (M : List ℕ) where
-  write_by_lem : (offset : ℕ) (bytes : List ℕ) (it : BlockIter) (w : Work) (x : Next) → Passes (λ t. write_by L p.nodes M n offset bytes it (with_told w t) x) (live_count M)
+  write_by_lem : (offset : ℕ) (bytes : List ℕ) (it : BlockIter) (w : Work) (x : Option (BlockRange × BlockIter)) → Passes (λ t. write_by L p.nodes M n offset bytes it (with_told w t) x) (live_count M)
   unfolding write_by wrote_page put_all
-  write_by_lem offset bytes it w Done = record { why = Fine; rest = it; work = w; notices = []; few = omega arith; same = λ t. refl }
-  write_by_lem offset bytes it w (Block b next) =
+  write_by_lem offset bytes it w None = record { why = (Ok tt); rest = it; work = w; notices = []; few = omega arith; same = λ t. refl }
+  write_by_lem offset bytes it w (Some (b, next)) =
       let s = room_enough L p sound M w n b.block true leaf in
       let v = work_of s.pages s.used s.memory w.told in
       let a = against_write s.answer in

@@ -1,4 +1,5 @@
 -- Every call keeps a pool sound: read, write, commit and commit_page, on any object and range, refused or not. Assumes nothing.
+use Rattle.outcome.specs.Answers.{Answer}
 use mathlib.Core.Path.{◌≡◌, refl, ap}
 use mathlib.Core.Bool.{Bool, true}
 use mathlib.Core.List.{List, []}
@@ -12,7 +13,6 @@ use Rattle.lookup.specs.Commit.{commit_leaf}
 use Rattle.sound.specs.Sound.{sound}
 use Rattle.sound.specs.Facts.{Sound}
 use Rattle.outcome.specs.declared.answer.Refusal.{Refusal}
-use Rattle.outcome.specs.declared.answer.Answer.{Answer}
 use Rattle.outcome.specs.Outcome.{Outcome, refused}
 use Rattle.commit.specs.Commit as One
 use Rattle.page.specs.Pages.{read_of}

@@ -1,4 +1,6 @@
 -- Frames taken page by page: so far as many as the pages need, and the pages to come need what they needed. Assumes nothing.
+use Rattle.std.specs.Prelude.{Err, Ok}
+use Rattle.outcome.specs.Answers.{Checked}
 use mathlib.Core.Path.{◌≡◌, refl, ◌∙◌}
 use mathlib.Core.Bool.{true}
 use mathlib.Core.List.{List}
@@ -9,8 +11,6 @@ use Rattle.tables.specs.Pool.{Pool}
 use Rattle.frames.specs.Frames.{free_count}
 use Rattle.lookup.specs.Work.{Work}
 use Rattle.lookup.specs.Commit.{Committing}
-use Rattle.outcome.specs.declared.answer.Against.{Against}
-use Rattle.outcome.specs.declared.answer.Against.TheVariants.{Why, Nothing as Fine}
 use Rattle.outcome.specs.declared.answer.Refusal.{Refusal}
 use Rattle.outcome.specs.declared.answer.Refusal.TheVariants.{NoMemory}
 use Rattle.isolation.specs.Private.{Private}
@@ -78,6 +78,6 @@ module _ (p : Pool) (n first : ℕ) where
         record { among = l; before = omega arith; here = omega arith; none = none_free r.work.used g.no_frame }
 
   -- how a run of pages ends; Y and Z say where
-  pub data Ending (pages : ℕ) (why : Against) (left : List ℕ) (Y : Type 0) (Z : ℕ → Type 0) : Type 0 where
-    all : why ≡ Fine → free_count p.used ≡ free_count left + sum pages → Y → Ending pages why left Y Z
-    out : (d : ℕ) → why ≡ Why NoMemory → Out pages left d → Z d → Ending pages why left Y Z
+  pub data Ending (pages : ℕ) (why : Checked) (left : List ℕ) (Y : Type 0) (Z : ℕ → Type 0) : Type 0 where
+    all : why ≡ Ok tt → free_count p.used ≡ free_count left + sum pages → Y → Ending pages why left Y Z
+    out : (d : ℕ) → why ≡ Err NoMemory → Out pages left d → Z d → Ending pages why left Y Z

@@ -1,4 +1,5 @@
 -- The bytes of a block stored in its page's frame are the next bytes of the array. Assumes nothing.
+use Rattle.std.specs.Prelude.{Ok, Some}
 use mathlib.Core.Path.{◌≡◌}
 use mathlib.Core.List.{List}
 use Prim.Native.Nat.{ℕ, ◌+◌, ◌-◌, ◌≤◌}
@@ -8,7 +9,6 @@ use Rattle.blocks.specs.declared.BlockIter.{BlockIter}
 use Rattle.blocks.specs.declared.BlockRange.{BlockRange}
 use Rattle.entry.specs.declared.PageState.{PageState}
 use Rattle.tables.specs.Pool.{Pool}
-use Rattle.lookup.specs.declared.Committed.TheVariants.{Frame}
 use Rattle.lookup.specs.Work.{Work}
 use Rattle.sound.specs.Facts.{Leaf, Holds}
 use Rattle.page.specs.Pages.{stored_by}
@@ -26,7 +26,7 @@ module _ (L : ℕ) (A : ℕ → ℕ → ℕ → ℕ) (p : Pool) (n offset : ℕ)
   arrays done = write_array L A n offset bytes done
 
   pub stored : (f : ℕ) (v : Work) → Private L (arrays (it.begin - offset)) (pool_with p v) → (s : PageState) × Holds v.pages n b.block s × (s.frame ≡ f)
-      → Private L (arrays (next.begin - offset)) (pool_with p (stored_by L bytes (it.begin - offset) b (Frame f) v))
+      → Private L (arrays (next.begin - offset)) (pool_with p (stored_by L bytes (it.begin - offset) b (Ok (Some f)) v))
   unfolding stored_by
   stored f v P (s, holds, e) =
       let a = F.starts in

@@ -1,4 +1,5 @@
 -- The room that write, commit and create_child test is enough: no notice is lost, and no word past the count is written. Assumes nothing.
+use Rattle.std.specs.Prelude.{Option, ℕ, Some, None, Err, Ok}
 use mathlib.Core.Path.{◌≡◌, refl, ap, ◌∙◌}
 use mathlib.Core.Bool.{Bool, true, false}
 use mathlib.Core.List.{List, []}
@@ -9,8 +10,6 @@ use lib.Dec.{leb}
 use lib.ListN.{length, get_or}
 use borrow.Author.Tests.{leb-true, leb-false}
 use Rattle.logic.specs.Pick.{pick}
-use Rattle.logic.specs.declared.Found.{Found}
-use Rattle.logic.specs.declared.Found.TheVariants.{At, Nothing}
 use Rattle.blocks.specs.Blocks.{iter_of, count_of}
 use Rattle.node.specs.Node.{last_owner, cached_of, contains_of}
 use Rattle.tables.specs.Pool.{Pool}
@@ -23,13 +22,10 @@ use Rattle.lookup.specs.Work.{Work}
 use Rattle.lookup.specs.Level.{with_told}
 use Rattle.outcome.specs.declared.answer.Refusal as R
 use Rattle.outcome.specs.declared.answer.Refusal.{Refusal}
-use Rattle.outcome.specs.declared.answer.Against.{Against}
-use Rattle.outcome.specs.declared.answer.Against.TheVariants.{Why, Nothing as Fine}
-use Rattle.outcome.specs.Answers.{unless}
+use Rattle.outcome.specs.Answers.{unless, Checked, Answer}
 use Rattle.pool.specs.Calls.{on_entered, on_object}
 use Rattle.pool.proofs.Laws.{enters}
 use Rattle.outcome.specs.Room.{live_count, room_of}
-use Rattle.outcome.specs.declared.answer.Answer.{Answer}
 use Rattle.outcome.specs.Outcome.{Outcome, refused}
 use Rattle.child.specs.Child.{born, against_child, with_both, with_child, number_child, child_at, create_child}
 use Rattle.page.specs.Each.{Part}
@@ -89,17 +85,17 @@ object_told L p object {most} does go =
 -- create_child
 
 module _ (p : Pool) (n first pages : ℕ) where
-  both_told : (child : ℕ) (f : Found) → TellsAll (λ list. with_both p list n first pages child f) (live_count p.mappings)
+  both_told : (child : ℕ) (f : Option ℕ) → TellsAll (λ list. with_both p list n first pages child f) (live_count p.mappings)
   unfolding with_both born
-  both_told child (At hidden) =
+  both_told child (Some hidden) =
       let s = object_room p.mappings n first (first + pages) remove_write in
       tested p 1 s.notices (omega arith) s.few (λ list r. rw r (s.same (told_of list 0))) (λ list r. rw r refl)
-  both_told child Nothing = silent (λ list. refl)
+  both_told child None = silent (λ list. refl)
 
-  child_told_lem : (f : Found) → TellsAll (λ list. with_child p list n first pages f) (live_count p.mappings)
+  child_told_lem : (f : Option ℕ) → TellsAll (λ list. with_child p list n first pages f) (live_count p.mappings)
   unfolding with_child
-  child_told_lem (At child) = both_told child (free_node_from p.nodes (child + 1))
-  child_told_lem Nothing = silent (λ list. refl)
+  child_told_lem (Some child) = both_told child (free_node_from p.nodes (child + 1))
+  child_told_lem None = silent (λ list. refl)
 
   numbered_told : TellsAll (λ list. number_child p list n first pages) (live_count p.mappings)
   unfolding number_child
@@ -109,9 +105,9 @@ module _ (p : Pool) (n first pages : ℕ) where
       by true = child_told_lem (free_node_in p.nodes)
       by false = silent (λ list. refl)
 
-unless_told : {most : ℕ} (p : Pool) (a : Against) (go : List ℕ → Outcome Answer) → TellsAll go most → TellsAll (λ list. unless a (refused p list []) (go list)) most
-unless_told p (Why r) go t = silent (λ list. refl)
-unless_told p Fine go t = t
+unless_told : {most : ℕ} (p : Pool) (a : Checked) (go : List ℕ → Outcome Answer) → TellsAll go most → TellsAll (λ list. unless a (refused p list []) (go list)) most
+unless_told p (Err r) go t = silent (λ list. refl)
+unless_told p (Ok u) go t = t
 
 pub child_loses_none : (L : ℕ) (p : Pool) (object offset len : ℕ) → TellsAll (λ list. create_child L p list object offset len) (live_count p.mappings)
 unfolding child_at
@@ -124,12 +120,12 @@ child_loses_none L p object offset len =
 abbrev Most : Pool → ℕ → ℕ
 Most p pages = pages * live_count p.mappings
 
-abbrev Room : Pool → ℕ → List ℕ → Against
-Room p pages list = pick (room_of p.mappings list pages) Fine (Why R.TheVariants.NoRoom)
+abbrev Room : Pool → ℕ → List ℕ → Checked
+Room p pages list = pick (room_of p.mappings list pages) (Ok tt) (Err R.TheVariants.NoRoom)
 
 module _ (p : Pool) (pages : ℕ) {C : Type 0} (range : Work → Part C Work) (go : List ℕ → Outcome Answer) where
   inside_told : ((list : List ℕ) → (go list).told ≡ (range (start_work p list)).state.told) → (b : Bool) (why : Refusal) → Passes (λ t. range (with_told (start_work p []) t)) (Most p pages)
-      → TellsAll (λ list. unless (pick b (Room p pages list) (Why why)) (refused p list []) (go list)) (Most p pages)
+      → TellsAll (λ list. unless (pick b (Room p pages list) (Err why)) (refused p list []) (go list)) (Most p pages)
   inside_told same true why s =
       tested p pages s.notices refl s.few
       (λ list r. rw r (same list ∙ ap (λ (x : Part C Work). x.state.told) (s.same (told_of list 0)))) (λ list r. rw r refl)
@@ -145,7 +141,7 @@ write_loses_none L p object offset bytes =
     k = count_of L (iter_of offset (offset + length bytes))
 
     by : Sound L p → Leaf p.nodes object → (c : Bool)
-        → TellsAll (λ list. unless (pick c (pick (contains_of L (node_of p.nodes object) offset (length bytes)) (Room p k list) (Why R.TheVariants.OutOfRange)) (Why R.TheVariants.BadState)) (refused p list []) (write_through L p list object offset bytes)) (k * live_count p.mappings)
+        → TellsAll (λ list. unless (pick c (pick (contains_of L (node_of p.nodes object) offset (length bytes)) (Room p k list) (Err R.TheVariants.OutOfRange)) (Err R.TheVariants.BadState)) (refused p list []) (write_through L p list object offset bytes)) (k * live_count p.mappings)
     by s l true =
         inside_told p k (write_range L p.nodes p.mappings object offset bytes) (λ list. write_through L p list object offset bytes) (λ list. refl)
         (contains_of L (node_of p.nodes object) offset (length bytes)) R.TheVariants.OutOfRange

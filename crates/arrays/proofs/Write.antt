@@ -1,4 +1,6 @@
 -- A write changes its object's array alone, by the bytes that it has done. Assumes nothing.
+use Rattle.std.specs.Prelude.{Option, Ok, Some, None, Err}
+use Rattle.outcome.specs.Answers.{Checked}
 use mathlib.Core.Path.{◌≡◌, refl, sym, ap, ◌∙◌, subst}
 use mathlib.Core.Bool.{true}
 use mathlib.Core.List.{List}
@@ -9,17 +11,12 @@ use lib.Arith.{digits_div}
 use lib.ListN.{length}
 use Rattle.blocks.specs.declared.BlockIter.{BlockIter}
 use Rattle.blocks.specs.declared.BlockRange.{BlockRange}
-use Rattle.blocks.specs.declared.Next.{Next}
 use Rattle.blocks.specs.Blocks.{iter_of, count_of}
 use Rattle.tables.specs.Pool.{Pool}
 use Rattle.tables.specs.Tables.{node_of}
-use Rattle.lookup.specs.declared.Committed.{Committed}
-use Rattle.lookup.specs.declared.Committed.TheVariants.{Frame, ZeroFrame, Refused}
 use Rattle.lookup.specs.Work.{Work}
-use Rattle.lookup.specs.Commit.{committing_of, commit_leaf}
+use Rattle.lookup.specs.Commit.{committing_of, commit_leaf, Committed}
 use Rattle.sound.specs.Facts.{Leaf}
-use Rattle.outcome.specs.declared.answer.Against.{Against}
-use Rattle.outcome.specs.declared.answer.Against.TheVariants.{Why, Nothing as Fine}
 use Rattle.page.specs.Each.{Part, part_of}
 use Rattle.page.specs.Pages.{against_write, stored_by, rest_by, wrote_page, write_by, write_page}
 use Rattle.ranges.specs.Ranges.{start_work, ranged_by, write_range, written, write_through}
@@ -69,7 +66,7 @@ module _ (L : ℕ) (A : ℕ → ℕ → ℕ → ℕ) (p : Pool) (n offset : ℕ)
   abbrev step : BlockIter → Work → Part BlockIter Work
   step = write_page L p.nodes p.mappings n offset bytes
 
-  abbrev After-turn : ℕ → Against → Part BlockIter Work → Type 0
+  abbrev After-turn : ℕ → Checked → Part BlockIter Work → Type 0
   After-turn k a q = Goes step Before After k a q
 
   module _ (k : ℕ) (it : BlockIter) (w : Work) (B : Before (suc k) it w) (b : BlockRange) (next : BlockIter) (F : First L it b next) where
@@ -82,8 +79,8 @@ module _ (L : ℕ) (A : ℕ → ℕ → ℕ → ℕ) (p : Pool) (n offset : ℕ)
     block_is : b.block ≡ first + B.done
     block_is = F.block ∙ B.page begins
 
-    moved_on : (f : ℕ) (v : Work) → Private L (arrays (next.begin - offset)) (pool_with p (stored_by L bytes (it.begin - offset) b (Frame f) v)) → Spent p n first (suc B.done) v
-        → Before k next (stored_by L bytes (it.begin - offset) b (Frame f) v)
+    moved_on : (f : ℕ) (v : Work) → Private L (arrays (next.begin - offset)) (pool_with p (stored_by L bytes (it.begin - offset) b (Ok (Some f)) v)) → Spent p n first (suc B.done) v
+        → Before k next (stored_by L bytes (it.begin - offset) b (Ok (Some f)) v)
     unfolding stored_by
     moved_on f v P s =
         let a = F.starts in
@@ -123,21 +120,21 @@ module _ (L : ℕ) (A : ℕ → ℕ → ℕ → ℕ) (p : Pool) (n offset : ℕ)
     turn_by_lem : (z : Committed) (v : Work) → Kept L (arrays (it.begin - offset)) (pool_with p w) w.told n b.block true (committing_of z v)
         → After-turn k (against_write z) (part_of (against_write z) (rest_by (against_write z) it next) (stored_by L bytes (it.begin - offset) b z v))
     unfolding stored_by
-    turn_by_lem (Frame f) v K =
+    turn_by_lem (Ok (Some f)) v K =
         moved_on f v (let x = F.within in let y = B.end in stored L A p n offset bytes leaf it next b F B.from (omega arith) f v K.private (K.answers.own refl))
-        (spent_more p n first L (arrays (it.begin - offset)) B.done w B.private B.spent (committing_of (Frame f) v) (rw block_is at K) (rw block_is at K.answers))
-    turn_by_lem (Refused r) v K =
+        (spent_more p n first L (arrays (it.begin - offset)) B.done w B.private B.spent (committing_of (Ok (Some f)) v) (rw block_is at K) (rw block_is at K.answers))
+    turn_by_lem (Err r) v K =
         let l = begins in
         let x = B.from in
         let y = B.end in
         let i = B.all_pages in
         record {
           private = K.private;
-          ends = out B.done (ap Why K.answers.answer)
-              (spent_out p n first L (arrays (it.begin - offset)) B.done w B.private B.spent (committing_of (Refused r) v) (rw block_is at K) pages (omega arith) (rw block_is at K.answers))
+          ends = out B.done (ap Err K.answers.answer)
+              (spent_out p n first L (arrays (it.begin - offset)) B.done w B.private B.spent (committing_of (Err r) v) (rw block_is at K) pages (omega arith) (rw block_is at K.answers))
               (omega arith, B.bytes_done l);
         }
-    turn_by_lem ZeroFrame v K = true_not refl K.answers.reading
+    turn_by_lem (Ok None) v K = true_not refl K.answers.reading
 
   turn : (k : ℕ) (it : BlockIter) (w : Work) → Before (suc k) it w → After-turn k (step it w).why (step it w)
   unfolding write_page write_by wrote_page
@@ -146,13 +143,13 @@ module _ (L : ℕ) (A : ℕ → ℕ → ℕ → ℕ) (p : Pool) (n offset : ℕ)
       let e = B.end in
       let c = cut L (some_length L (node_of p.nodes n).size it.begin it.end l (omega arith)) it l in
       let b = c.block in
-      subst (λ (x : Next). After-turn k (write_by L p.nodes p.mappings n offset bytes it w x).why (write_by L p.nodes p.mappings n offset bytes it w x)) (sym c.next)
+      subst (λ (x : Option (BlockRange × BlockIter)). After-turn k (write_by L p.nodes p.mappings n offset bytes it w x).why (write_by L p.nodes p.mappings n offset bytes it w x)) (sym c.next)
       (let r = commit_leaf L p.nodes p.mappings w n b.block true in
       turn_by_lem k it w B b c.rest c.first r.answer r.work
       (look_goes_on L (arrays (it.begin - offset)) p w B.private n b.block true leaf
       (block_inside L offset (length bytes) (node_of p.nodes n).size it b c.rest c.first l B.end inside)))
 
-  ends : (it : BlockIter) (w : Work) → Before 0 it w → After (part_of Fine it w)
+  ends : (it : BlockIter) (w : Work) → Before 0 it w → After (part_of (Ok tt) it w)
   ends it w B =
       let e : B.done ≡ pages = let m = B.all_pages in omega arith in
       let x = B.from in

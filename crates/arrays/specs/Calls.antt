@@ -1,11 +1,10 @@
 -- What calls on an object do, whatever object and range they name; and what commit_page answers.
-use Rattle.std.specs.Prelude.{◌≡◌, Bool, true, false, ◌⊎◌, ℕ, ◌+◌, ◌*◌, ◌≤◌, ◌<◌, get_or}
+use Rattle.std.specs.Prelude.{◌≡◌, Bool, true, false, ◌⊎◌, ℕ, ◌+◌, ◌*◌, ◌≤◌, ◌<◌, get_or, Ok, Err}
+use Rattle.outcome.specs.Answers.{Answer}
 use Rattle.tables.specs.Pool.{Pool}
 use Rattle.frames.specs.Frames.{free_count}
-use Rattle.outcome.specs.declared.answer.Answer.TheVariants.{Done, Refused}
 use Rattle.outcome.specs.declared.answer.Refusal.{Refusal}
 use Rattle.outcome.specs.declared.answer.Refusal.TheVariants.{OutOfRange, BadState, InvalidArgs, NoMemory, NotSupported, Unavailable, BadPool, NoObject, NoNode, NoRoom, Stopped, PinLedger}
-use Rattle.outcome.specs.declared.answer.Answer.{Answer}
 use Rattle.outcome.specs.Outcome.{Outcome}
 use Rattle.isolation.specs.Private.{Private}
 use Rattle.lookups.specs.Need.{need}
@@ -34,7 +33,7 @@ pub data Called {R : Type 0} (refuse : Refusal → R) (W : R → Type 0) (r : R)
 -- commit_page gives a frame with the page's bytes; for writing as many frames were taken as the page needs, for reading none
 pub record Frame (L : ℕ) (A : ℕ → ℕ → ℕ → ℕ) (p : Pool) (n page : ℕ) (write : Bool) (r : Outcome Answer) : Type 0 where
   pub frame : ℕ
-  pub answer : r.answer ≡ Done frame
+  pub answer : r.answer ≡ Ok frame
   pub bytes : (k : ℕ) → k < L → get_or r.pool.memory (frame * L + k) 0 ≡ A n page k
   pub enough : write ≡ true → need p.nodes p.pages n page ≤ free_count p.used
   pub taken : write ≡ true → free_count p.used ≡ free_count r.pool.used + need p.nodes p.pages n page
@@ -42,14 +41,14 @@ pub record Frame (L : ℕ) (A : ℕ → ℕ → ℕ → ℕ) (p : Pool) (n page 
 
 -- for reading it may give the shared zero frame, and change nothing
 pub record ZeroFrame (L : ℕ) (A : ℕ → ℕ → ℕ → ℕ) (p : Pool) (n page : ℕ) (write : Bool) (r : Outcome Answer) : Type 0 where
-  pub answer : r.answer ≡ Done 4294967295
+  pub answer : r.answer ≡ Ok 4294967295
   pub reading : write ≡ false
   pub bytes : (k : ℕ) → k < L → A n page k ≡ 0
   pub same : r.pool ≡ p
 
 -- for writing there may be too few frames: then all are taken
 pub record NoFrame (p : Pool) (n page : ℕ) (write : Bool) (r : Outcome Answer) : Type 0 where
-  pub answer : r.answer ≡ Refused NoMemory
+  pub answer : r.answer ≡ Err NoMemory
   pub writing : write ≡ true
   pub short : free_count p.used < need p.nodes p.pages n page
   pub none : free_count r.pool.used ≡ 0

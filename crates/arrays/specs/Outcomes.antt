@@ -1,10 +1,9 @@
 -- What an accepted read, write or commit of a private array answers and leaves. Each page of a range is counted from 0, in order.
-use Rattle.std.specs.Prelude.{◌≡◌, List, ◌⊎◌, ℕ, ◌+◌, ◌-◌, ◌*◌, ◌/◌, ◌%◌, ◌≤◌, ◌<◌, length, get_or}
+use Rattle.std.specs.Prelude.{◌≡◌, List, ◌⊎◌, ℕ, ◌+◌, ◌-◌, ◌*◌, ◌/◌, ◌%◌, ◌≤◌, ◌<◌, length, get_or, Ok, Err}
+use Rattle.outcome.specs.Answers.{Answer}
 use Rattle.tables.specs.Pool.{Pool}
 use Rattle.frames.specs.Frames.{free_count}
-use Rattle.outcome.specs.declared.answer.Answer.TheVariants.{Done, Refused}
 use Rattle.outcome.specs.declared.answer.Refusal.TheVariants.{NoMemory}
-use Rattle.outcome.specs.declared.answer.Answer.{Answer}
 use Rattle.outcome.specs.Outcome.{Outcome}
 use Rattle.isolation.specs.Private.{Private}
 use Rattle.arrays.specs.Arrays.{write_array, touched, needs}
@@ -17,7 +16,7 @@ pub record Stays (p q : Pool) : Type 0 where
 
 -- a read gives the array's bytes, and takes no frame; a page may move
 pub record Reads (L : ℕ) (A : ℕ → ℕ → ℕ → ℕ) (p : Pool) (n offset : ℕ) (buf : List ℕ) (r : Outcome Answer) : Type 0 where
-  pub answer : r.answer ≡ Done 0
+  pub answer : r.answer ≡ Ok 0
   pub private : Private L A r.pool
   pub stays : Stays p r.pool
   pub used : r.pool.used ≡ p.used
@@ -27,14 +26,14 @@ pub record Reads (L : ℕ) (A : ℕ → ℕ → ℕ → ℕ) (p : Pool) (n offse
 
 -- the pages from `first` on need no more frames than are free: they are taken, and the call is done
 pub record Granted (p : Pool) (n first pages value : ℕ) (r : Outcome Answer) : Type 0 where
-  pub answer : r.answer ≡ Done value
+  pub answer : r.answer ≡ Ok value
   pub done : r.done ≡ value
   pub enough : needs p.nodes p.pages n first pages ≤ free_count p.used
   pub taken : r.taken ≡ needs p.nodes p.pages n first pages
 
 -- they need more: all free frames are taken, and the call ends at the first page for which there are too few
 pub record Short (p : Pool) (n first pages : ℕ) (doneBy : ℕ → ℕ) (r : Outcome Answer) : Type 0 where
-  pub answer : r.answer ≡ Refused NoMemory
+  pub answer : r.answer ≡ Err NoMemory
   pub short : free_count p.used < needs p.nodes p.pages n first pages
   pub page : ℕ
   pub among : page < pages

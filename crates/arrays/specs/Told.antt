@@ -1,7 +1,7 @@
 -- What a call that asks for room says to the mappings, for every list.
 use Rattle.std.specs.Prelude.{List, ℕ}
+use Rattle.outcome.specs.Answers.{Answer}
 use Rattle.outcome.specs.Told.{told_of}
-use Rattle.outcome.specs.declared.answer.Answer.{Answer}
 use Rattle.outcome.specs.Outcome.{Outcome}
 use Rattle.bounds.specs.Telling.{Wrote}
 use Rattle.bounds.specs.Calling.{LosesNone}

@@ -1,4 +1,5 @@
 -- The same calls keep every object's array; a new object reads zeros, and a child a part of its object's array. Assumes nothing.
+use Rattle.outcome.specs.Answers.{Answer}
 use mathlib.Core.Path.{◌≡◌, refl}
 use mathlib.Core.Bool.{Bool, true, false}
 use mathlib.Core.List.{List, []}
@@ -9,7 +10,6 @@ use Rattle.logic.specs.Pick.{pick}
 use Rattle.tables.specs.Pool.{Pool}
 use Rattle.sound.specs.Sound.{lengths_ok, sound}
 use Rattle.outcome.specs.declared.answer.Refusal.TheVariants.{InvalidArgs, BadPool}
-use Rattle.outcome.specs.declared.answer.Answer.{Answer}
 use Rattle.outcome.specs.Outcome.{Outcome, refused}
 use Rattle.pool.specs.Calls.{start, new_leaf, new, len}
 use Rattle.mapped.specs.Mapped.{append_at, remove_at, append_mapping, remove_mapping}

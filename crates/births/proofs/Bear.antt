@@ -1,4 +1,5 @@
 -- The steps of create_child: refused they leave the pool, done they give birth. Assumes nothing.
+use Rattle.std.specs.Prelude.{Option, ℕ, Some, None, Err, Ok}
 use mathlib.Core.Path.{◌≡◌, refl}
 use mathlib.Core.Bool.{Bool, true, false}
 use mathlib.Core.List.{List, []}
@@ -8,17 +9,12 @@ use lib.Dec.{leb}
 use lib.ListN.{get_or}
 use borrow.Author.Tests.{leb-true}
 use Rattle.logic.specs.Pick.{pick}
-use Rattle.logic.specs.declared.Found.{Found}
-use Rattle.logic.specs.declared.Found.TheVariants.{At, Nothing}
 use Rattle.node.specs.Node.{last_owner}
 use Rattle.tables.specs.Pool.{Pool}
 use Rattle.tables.specs.Tables.{node_of, free_node_in, free_node_from}
 use Rattle.outcome.specs.declared.answer.Refusal as R
-use Rattle.outcome.specs.declared.answer.Against.{Against}
-use Rattle.outcome.specs.declared.answer.Against.TheVariants.{Why, Nothing as Fine}
-use Rattle.outcome.specs.Answers.{unless}
+use Rattle.outcome.specs.Answers.{unless, Checked, Answer}
 use Rattle.outcome.specs.Room.{room_of}
-use Rattle.outcome.specs.declared.answer.Answer.{Answer}
 use Rattle.outcome.specs.Outcome.{Outcome, refused}
 use Rattle.child.specs.Child.{birth_by, born, against_child, with_both, with_child, number_child, child_at}
 use Rattle.sound.specs.Facts.{Leaf, Sound}
@@ -47,19 +43,19 @@ module _ (L : ℕ) (p : Pool) (list : List ℕ) (S : Sound L p) (n first pages :
   -- what holds of the pool with its refusals, and of each birth, holds of the step
   module _ (B : Outcome Answer → Type 0) (stay : (r : R.Refusal) → B (refused p list [] r))
       (birth : (c x : ℕ) → get_or p.head 0 0 ≤ last_owner → Granted p.nodes n x c first pages → B (born p list (birth_by n c x first pages))) where
-    both_by : (c : ℕ) → get_or p.head 0 0 ≤ last_owner → Free p.nodes 0 c → (f : Found) → free_node_from p.nodes (c + 1) ≡ f → B (with_both p list n first pages c f)
+    both_by : (c : ℕ) → get_or p.head 0 0 ≤ last_owner → Free p.nodes 0 c → (f : Option ℕ) → free_node_from p.nodes (c + 1) ≡ f → B (with_both p list n first pages c f)
     unfolding with_both
-    both_by c l h (At x) e = by (room_of p.mappings list 1)
+    both_by c l h (Some x) e = by (room_of p.mappings list 1)
       where
         by : (b : Bool) → B (pick b (born p list (birth_by n c x first pages)) (refused p list [] R.TheVariants.NoRoom))
         by true = let k = h.low in birth c x l (granted c x h (found_from p.nodes S.lengths.nodes (c + 1) x (omega arith) e))
         by false = stay R.TheVariants.NoRoom
-    both_by c l h Nothing e = stay R.TheVariants.NoNode
+    both_by c l h None e = stay R.TheVariants.NoNode
 
-    child_by_lem : get_or p.head 0 0 ≤ last_owner → (f : Found) → free_node_in p.nodes ≡ f → B (with_child p list n first pages f)
+    child_by_lem : get_or p.head 0 0 ≤ last_owner → (f : Option ℕ) → free_node_in p.nodes ≡ f → B (with_child p list n first pages f)
     unfolding with_child
-    child_by_lem l (At c) e = both_by c l (found_free p.nodes S.lengths.nodes c e) (free_node_from p.nodes (c + 1)) refl
-    child_by_lem l Nothing e = stay R.TheVariants.NoNode
+    child_by_lem l (Some c) e = both_by c l (found_free p.nodes S.lengths.nodes c e) (free_node_from p.nodes (c + 1)) refl
+    child_by_lem l None e = stay R.TheVariants.NoNode
 
     pub numbered_by : B (number_child p list n first pages)
     unfolding number_child
@@ -99,13 +95,13 @@ module _ (L : ℕ) (p : Pool) (list : List ℕ) (n first pages : ℕ) (leaf : Le
 -- and with the tests before them
 
 module _ (L : ℕ) (p : Pool) (list : List ℕ) (n offset len : ℕ) (leaf : Leaf p.nodes n) where
-  abbrev against : Against
+  abbrev against : Checked
   against = against_child L (node_of p.nodes n) offset len
 
   tested_by : (B : Outcome Answer → Type 0) → ((r : R.Refusal) → B (refused p list [] r)) → (Allows L (node_of p.nodes n) offset len → B (number_child p list n (offset / L) (len / L)))
-      → (a : Against) → against ≡ a → B (unless a (refused p list []) (number_child p list n (offset / L) (len / L)))
-  tested_by B stay go (Why r) e = stay r
-  tested_by B stay go Fine e = go (allows L (node_of p.nodes n) offset len e)
+      → (a : Checked) → against ≡ a → B (unless a (refused p list []) (number_child p list n (offset / L) (len / L)))
+  tested_by B stay go (Err r) e = stay r
+  tested_by B stay go (Ok u) e = go (allows L (node_of p.nodes n) offset len e)
 
   pub child_facts : Sound L p → Sound L (child_at L p list n offset len).pool
   unfolding child_at

@@ -1,5 +1,7 @@
 -- The calls start, new, len, append_mapping, remove_mapping, forecast and create_child leave a sound pool sound, whatever their arguments and
 -- answers. Assumes nothing.
+use Rattle.std.specs.Prelude.{Ok}
+use Rattle.outcome.specs.Answers.{Answer}
 use mathlib.Core.Path.{◌≡◌, refl}
 use mathlib.Core.Bool.{Bool, true, false}
 use mathlib.Core.List.{List, []}
@@ -11,10 +13,8 @@ use Rattle.tables.specs.Pool.{Pool}
 use Rattle.sound.specs.Sound.{lengths_ok, sound}
 use Rattle.sound.specs.Facts.{Leaf, Sound}
 use Rattle.soundness.proofs.Soundness.{sound_facts, facts_sound}
-use Rattle.outcome.specs.declared.answer.Answer.TheVariants.{Done}
 use Rattle.outcome.specs.declared.answer.Refusal.{Refusal}
 use Rattle.outcome.specs.declared.answer.Refusal.TheVariants.{InvalidArgs, BadPool, NoObject}
-use Rattle.outcome.specs.declared.answer.Answer.{Answer}
 use Rattle.outcome.specs.Outcome.{Outcome, refused}
 use Rattle.pool.specs.Calls.{saying, fresh_pool, start, new_leaf, new, on_object, len}
 use Rattle.pool.proofs.Laws.{on_leaf}
@@ -43,7 +43,7 @@ pub start-sound : (L : ℕ) (p : Pool) → sound L p ≡ true → sound L (start
 unfolding start
 start-sound L p s = by (lengths_ok L p) refl
   where
-    by : (b : Bool) → lengths_ok L p ≡ b → sound L (pick b (saying (Done 0) (fresh_pool p)) (refused p [] [] BadPool)).pool ≡ true
+    by : (b : Bool) → lengths_ok L p ≡ b → sound L (pick b (saying (Ok 0) (fresh_pool p)) (refused p [] [] BadPool)).pool ≡ true
     by true h = fresh-sound L p h
     by false h = s
 

@@ -1,4 +1,6 @@
 -- A pool in which a child was born is sound. Assumes nothing.
+use Rattle.std.specs.Prelude.{Option, None, Some}
+use Rattle.entry.specs.declared.PageState.{PageState}
 use mathlib.Core.Path.{◌≡◌, refl, sym, ap, ◌∙◌}
 use mathlib.Core.List.{List}
 use Prim.Native.Nat.{ℕ, ◌+◌, ◌≤◌, ◌<◌}
@@ -6,8 +8,6 @@ use native.Mathlib.Omega.{arith}
 use lib.ListN.{length, get_or, set, length-set}
 use lib.Seq.{get_or-set_same}
 use Rattle.logic.proofs.Means.{less, split}
-use Rattle.entry.specs.declared.Slot.{Slot}
-use Rattle.entry.specs.declared.Slot.TheVariants.{Empty, Held}
 use Rattle.node.specs.declared.Node.{Node}
 use Rattle.node.specs.Node.{last_owner}
 use Rattle.tables.specs.Pool.{Pool, pool_of}
@@ -82,15 +82,15 @@ module _ (L : ℕ) (p : Pool) (n x c first pages : ℕ) (g : Granted p.nodes n x
       }
 
   -- the child's row is empty
-  pub bare_c : (j : ℕ) → slot_at P' c j ≡ Empty
+  pub bare_c : (j : ℕ) → slot_at P' c j ≡ None
   bare_c j = slots_rest p.pages P' n x moved c j c_n (λ e. g.apart (sym e)) ∙ by (slot_at p.pages c j) refl
     where
       c_n : c ≡ n → ⊥
       c_n e = leaf_live N n g.leaf (sym (ap (λ (k : ℕ). (node_of N k).kind) e) ∙ g.c_free)
 
-      by : (y : Slot) → slot_at p.pages c j ≡ y → y ≡ Empty
-      by Empty h = refl
-      by (Held s) h =
+      by : (y : Option PageState) → slot_at p.pages c j ≡ y → y ≡ None
+      by None h = refl
+      by (Some s) h =
           let l = S.entries.below c j s h in
           let z = ap (λ (r : Node). r.size) (S.tree.blank c g.c_free) in
           absurd (omega arith)

@@ -1,4 +1,6 @@
 -- What create_child's tests say of the child's pages. Assumes nothing.
+use Rattle.outcome.specs.Answers.{Checked}
+use Rattle.std.specs.Prelude.{Err, Ok}
 use mathlib.Core.Path.{◌≡◌, refl}
 use mathlib.Core.Bool.{Bool, true, false, ◌&&◌}
 use Prim.Native.Nat.{ℕ, zero, suc, ◌+◌, ◌*◌, ◌/◌, ◌%◌, ◌≤◌}
@@ -12,7 +14,6 @@ use Rattle.logic.proofs.Means.{most, split}
 use Rattle.blocks.specs.Blocks.{aligned_of}
 use Rattle.node.specs.declared.Node.{Node}
 use Rattle.node.specs.Node.{cached_of, contains_of}
-use Rattle.outcome.specs.declared.answer.Against.TheVariants.{Why, Nothing as Fine}
 use Rattle.outcome.specs.declared.answer.Refusal as R
 use Rattle.child.specs.Child.{against_child}
 
@@ -38,12 +39,12 @@ pub record Allows (L : ℕ) (r : Node) (offset len : ℕ) : Type 0 where
   pub whole : len % L ≡ 0
   pub inside : offset + len ≤ r.size * L
 
-why_not : {A : Type 0} {r : R.Refusal} → Why r ≡ Fine → A
+why_not : {A : Type 0} {r : R.Refusal} → ◌≡◌ {A = Checked} (Err r) (Ok tt) → A
 why_not e = let z : ◌≡◌ {A = ℕ} 0 1 = cc in absurd (omega arith)
 
 allows_by : (L : ℕ) (r : Node) (offset len : ℕ) (a b c : Bool)
     → (aligned_of L offset && aligned_of L len && leb len (64 * L)) ≡ a → (cached_of r && eqb r.pin_count 0) ≡ b → leb (offset + len) (r.size * L) ≡ c
-    → pick a (pick b (pick c Fine (Why R.TheVariants.OutOfRange)) (Why R.TheVariants.BadState)) (Why R.TheVariants.InvalidArgs) ≡ Fine → Allows L r offset len
+    → ◌≡◌ {A = Checked} (pick a (pick b (pick c (Ok tt) (Err R.TheVariants.OutOfRange)) (Err R.TheVariants.BadState)) (Err R.TheVariants.InvalidArgs)) (Ok tt) → Allows L r offset len
 allows_by L r offset len true true true x y z e =
     let w = and_left (aligned_of L offset && aligned_of L len) (leb len (64 * L)) x in
     let a = eqb-true (offset % L) 0 (and_left (aligned_of L offset) (aligned_of L len) w) in
@@ -60,7 +61,7 @@ allows_by L r offset len true true false x y z e = why_not e
 allows_by L r offset len true false c x y z e = why_not e
 allows_by L r offset len false b c x y z e = why_not e
 
-pub allows : (L : ℕ) (r : Node) (offset len : ℕ) → against_child L r offset len ≡ Fine → Allows L r offset len
+pub allows : (L : ℕ) (r : Node) (offset len : ℕ) → against_child L r offset len ≡ Ok tt → Allows L r offset len
 unfolding against_child contains_of
 allows L r offset len e =
     allows_by L r offset len (aligned_of L offset && aligned_of L len && leb len (64 * L)) (cached_of r && eqb r.pin_count 0)

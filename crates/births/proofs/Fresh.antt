@@ -1,4 +1,5 @@
 -- A fresh pool is sound, and as it has no object, its arrays are any. Assumes nothing.
+use Rattle.std.specs.Prelude.{None}
 use mathlib.Core.Path.{◌≡◌, refl, ap, ◌∙◌}
 use mathlib.Core.Bool.{Bool, true, false}
 use mathlib.Core.List.{List}
@@ -10,7 +11,6 @@ use lib.Seq.{get_or-set_same}
 use Rattle.logic.specs.Pick.{pick}
 use Rattle.logic.proofs.Means.{less, split}
 use Rattle.entry.specs.declared.PageState.{PageState}
-use Rattle.entry.specs.declared.Slot.TheVariants.{Empty}
 use Rattle.entry.specs.Entry.{slot_of}
 use Rattle.node.specs.declared.Node.{Node}
 use Rattle.node.specs.Node.{free_node}
@@ -54,7 +54,7 @@ zero_entry m n i = rw (zero_at m (n * 64 + i)) (by (ltb i 64))
     by true = refl
     by false = refl
 
-zero_slot : (m n i : ℕ) → slot_at (zeros m) n i ≡ Empty
+zero_slot : (m n i : ℕ) → slot_at (zeros m) n i ≡ None
 unfolding slot_at slot_of
 zero_slot m n i = rw (zero_entry m n i)
 

@@ -1,4 +1,5 @@
 -- At a birth the object's row of entries goes to the hidden node: the facts of the entries and of the mappings are kept. Assumes nothing.
+use Rattle.std.specs.Prelude.{None}
 use mathlib.Core.Path.{◌≡◌, sym, ap, ◌∙◌}
 use mathlib.Core.List.{List}
 use Prim.Native.Nat.{ℕ, zero, suc, ◌≤◌, ◌<◌}
@@ -6,7 +7,6 @@ use native.Mathlib.Omega.{arith}
 use Rattle.logic.specs.Below.{sum_below}
 use Rattle.logic.proofs.Means.{equal, less, split}
 use Rattle.entry.specs.declared.PageState.{PageState}
-use Rattle.entry.specs.declared.Slot.TheVariants.{Empty}
 use Rattle.entry.specs.Entry.{slot_of}
 use Rattle.node.specs.declared.Node.{Node}
 use Rattle.tables.specs.Tables.{node_of, entry_of, slot_at, mapping_of}
@@ -29,7 +29,7 @@ module _ (P P' : List ℕ) (n x : ℕ) (v : RowMoved P P' n x) where
   unfolding slot_at
   slots_x j = ap slot_of (v.at_x j)
 
-  pub slots_n : (j : ℕ) → slot_at P' n j ≡ Empty
+  pub slots_n : (j : ℕ) → slot_at P' n j ≡ None
   unfolding slot_at
   slots_n j = absent (entry_of P' n j) (rw (v.at_n j))
 
@@ -38,7 +38,7 @@ module _ (P P' : List ℕ) (n x : ℕ) (v : RowMoved P P' n x) where
   slots_rest m j a b = ap slot_of (v.rest m j a b)
 
 -- a page past the last is absent
-past_empty : (P : List ℕ) (n j : ℕ) → 64 ≤ j → slot_at P n j ≡ Empty
+past_empty : (P : List ℕ) (n j : ℕ) → 64 ≤ j → slot_at P n j ≡ None
 unfolding slot_at
 past_empty P n j l = absent (entry_of P n j) (rw (entry_past P n j l))
 
@@ -114,7 +114,7 @@ module _ (N N' P P' U : List ℕ) (n x c first pages next : ℕ) (D : Cloned N N
       let k = (D.at_old m y).pins in
       omega arith
 
-  empty_at : (m j : ℕ) → slot_at P' m j ≡ Empty → entry_of P' m j ≡ 0
+  empty_at : (m j : ℕ) → slot_at P' m j ≡ None → entry_of P' m j ≡ 0
   empty_at m j h =
       split (equal m x)
       (λ e. rw e (v.at_x j ∙ o.empty n j (sym (slots_x P P' n x v j) ∙ (rw e at h))))

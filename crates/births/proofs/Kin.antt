@@ -1,4 +1,5 @@
 -- The nodes as walks see them before and after a birth. Assumes nothing.
+use Rattle.std.specs.Prelude.{Option, None, Some}
 use mathlib.Core.Path.{◌≡◌, sym, ap, ◌∙◌}
 use mathlib.Core.Bool.{Bool, true, ◌&&◌, not}
 use mathlib.Core.List.{List}
@@ -10,8 +11,6 @@ use borrow.Author.Tests.{eq-eqb, ne_eqb, le-leb, lt-leb}
 use Rattle.logic.proofs.Means.{equal, most, split}
 use Rattle.entry.specs.declared.PageState.{PageState}
 use Rattle.entry.specs.declared.PageStateTag.TheVariants.{Owned, LeftSplit, RightSplit}
-use Rattle.entry.specs.declared.Slot.{Slot}
-use Rattle.entry.specs.declared.Slot.TheVariants.{Empty, Held}
 use Rattle.node.specs.declared.Node.{Node}
 use Rattle.node.specs.Node.{out_of, side_of}
 use Rattle.tables.specs.Tables.{node_of}
@@ -95,7 +94,7 @@ module _ (N N' : List ℕ) (n x c first pages owner next' : ℕ) (D : Cloned N N
       rw D.at_x
       (asks-above (node_of N n) n c p n_seen (λ ne. G.windows.whole n ((node_of N n).parent - 1) (omega arith)))
 
-  module _ (E E' : ℕ → ℕ → Slot) (eo : (a b : ℕ) → Old n x c a → E' a b ≡ E a b) (ex : (p : ℕ) → E' x p ≡ E n p) (ow : (p : ℕ) (s : PageState) → E n p ≡ Held s → s.tag ≡ Owned) where
+  module _ (E E' : ℕ → ℕ → Option PageState) (eo : (a b : ℕ) → Old n x c a → E' a b ≡ E a b) (ex : (p : ℕ) → E' x p ≡ E n p) (ow : (p : ℕ) (s : PageState) → E n p ≡ Some s → s.tag ≡ Owned) where
     pub born_links : Born (links_of N) (links_of N') E E' n x c
     born_links =
         record {
@@ -121,7 +120,7 @@ module _ (N N' : List ℕ) (n x c first pages owner next' : ℕ) (D : Cloned N N
   par_is : (y : ℕ) → (node_of N' y).parent ≡ x + 1 → (links_of N').par y ≡ x
   par_is y e = omega arith
 
-  pub below_n : (E' : ℕ → ℕ → Slot) → ((p : ℕ) → E' n p ≡ Empty) → Below (links_of N') E' x n 0 (node_of N n).size
+  pub below_n : (E' : ℕ → ℕ → Option PageState) → ((p : ℕ) → E' n p ≡ None) → Below (links_of N') E' x n 0 (node_of N n).size
   below_n E' bare =
       let e = par_is n (ap (λ (r : Node). r.parent) D.at_n) in
       record {
@@ -136,7 +135,7 @@ module _ (N N' : List ℕ) (n x c first pages owner next' : ℕ) (D : Cloned N N
         bare = bare;
       }
 
-  pub below_c : (E' : ℕ → ℕ → Slot) → ((p : ℕ) → E' c p ≡ Empty) → Below (links_of N') E' x c first pages
+  pub below_c : (E' : ℕ → ℕ → Option PageState) → ((p : ℕ) → E' c p ≡ None) → Below (links_of N') E' x c first pages
   below_c E' bare =
       let e = par_is c (ap (λ (r : Node). r.parent) D.at_c) in
       record {

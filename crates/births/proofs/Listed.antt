@@ -1,4 +1,5 @@
 -- The list of mappings stays sound as one is appended or removed. Assumes nothing.
+use Rattle.std.specs.Prelude.{Option, ℕ, Some, None}
 use mathlib.Core.Path.{◌≡◌, refl, sym, ap, ◌∙◌}
 use mathlib.Core.Bool.{true, false}
 use mathlib.Core.List.{List}
@@ -7,8 +8,6 @@ use native.Mathlib.Omega.{arith}
 use lib.Dec.{eqb}
 use lib.ListN.{length}
 use borrow.Author.Tests.{eqb-true, eqb-false, not-true}
-use Rattle.logic.specs.declared.Found.{Found}
-use Rattle.logic.specs.declared.Found.TheVariants.{At, Nothing}
 use Rattle.logic.proofs.Laws.{all_below_lem}
 use Rattle.logic.proofs.Means.{equal, less, split}
 use Rattle.tables.specs.declared.Mapping.{Mapping}
@@ -102,11 +101,11 @@ module _ (N M : List ℕ) (ok : Listing N M) where
             };
           }
 
-    append_by_lem : (f g : Found) → free_place M ≡ f → free_number M ≡ g → Listing N (append_by f g M object first pages).mappings
+    append_by_lem : (f g : Option ℕ) → free_place M ≡ f → free_number M ≡ g → Listing N (append_by f g M object first pages).mappings
     unfolding append_by free_place free_number
-    append_by_lem Nothing g a b = ok
-    append_by_lem (At i) Nothing a b = ok
-    append_by_lem (At i) (At k) a b = append_done i k (first_is (is_free_at M) 0 64 i a) (first_is (unused M) 0 64 k b)
+    append_by_lem None g a b = ok
+    append_by_lem (Some i) None a b = ok
+    append_by_lem (Some i) (Some k) a b = append_done i k (first_is (is_free_at M) 0 64 i a) (first_is (unused M) 0 64 k b)
 
     pub append_listing : Listing N (append M object first pages).mappings
     unfolding append
@@ -148,10 +147,10 @@ module _ (N M : List ℕ) (ok : Listing N M) where
         };
       }
 
-  removed_by_lem : (object k : ℕ) (f : Found) → place_of M object k ≡ f → Listing N (removed_by f M)
+  removed_by_lem : (object k : ℕ) (f : Option ℕ) → place_of M object k ≡ f → Listing N (removed_by f M)
   unfolding removed_by place_of
-  removed_by_lem object k (At i) e = let l = (first_is (is_at M object k) 0 64 i e).below in removed_done i (omega arith)
-  removed_by_lem object k Nothing e = ok
+  removed_by_lem object k (Some i) e = let l = (first_is (is_at M object k) 0 64 i e).below in removed_done i (omega arith)
+  removed_by_lem object k None e = ok
 
   pub removed_listing : (object k : ℕ) → Listing N (removed M object k)
   unfolding removed

@@ -1,4 +1,6 @@
 -- new: the pool stays sound, the new object reads zeros, and every other object what it read. Assumes nothing.
+use Rattle.std.specs.Prelude.{Option, ℕ, Some, None}
+use Rattle.outcome.specs.Answers.{Answer}
 use mathlib.Core.Path.{◌≡◌, refl, sym, ◌∙◌, subst}
 use mathlib.Core.Bool.{Bool, true, false}
 use mathlib.Core.List.{List, []}
@@ -9,18 +11,13 @@ use lib.ListN.{length, get_or, set, length-set}
 use lib.Seq.{get_or-set_same}
 use borrow.Author.Tests.{leb-true}
 use Rattle.logic.specs.Pick.{pick}
-use Rattle.logic.specs.declared.Found.{Found}
-use Rattle.logic.specs.declared.Found.TheVariants.{At, Nothing}
 use Rattle.logic.proofs.Means.{equal, split}
 use Rattle.entry.specs.declared.PageState.{PageState}
-use Rattle.entry.specs.declared.Slot.{Slot}
-use Rattle.entry.specs.declared.Slot.TheVariants.{Empty, Held}
 use Rattle.node.specs.Node.{last_owner, origin_node}
 use Rattle.tables.specs.Pool.{Pool, pool_of}
 use Rattle.tables.specs.Tables.{with_node, slot_at, free_node_in}
 use Rattle.sound.specs.Facts.{Sound}
 use Rattle.outcome.specs.declared.answer.Refusal.TheVariants.{NoNode}
-use Rattle.outcome.specs.declared.answer.Answer.{Answer}
 use Rattle.outcome.specs.Outcome.{Outcome, refused}
 use Rattle.pool.specs.Calls.{leaf_at, new_leaf}
 use Rattle.isolation.specs.Walk.{Near, View}
@@ -37,9 +34,9 @@ use Rattle.births.proofs.First.{Free, found_free}
 use Rattle.births.proofs.Cloned.{leaf_live}
 use Rattle.births.proofs.Origin.{live_not, Sprung, hidden_not, parent_old, new_tree, no_entry, new_entries, new_mappings}
 
-empty_by : (y : Slot) → ((s : PageState) → y ≡ Held s → ⊥) → y ≡ Empty
-empty_by Empty f = refl
-empty_by (Held s) f = absurd (f s refl)
+empty_by : (y : Option PageState) → ((s : PageState) → y ≡ Some s → ⊥) → y ≡ None
+empty_by None f = refl
+empty_by (Some s) f = absurd (f s refl)
 
 module _ (L : ℕ) (p : Pool) (size i : ℕ) (small : size ≤ 64) (more : get_or p.head 0 0 ≤ last_owner) (f : Free p.nodes 0 i) where
   abbrev next : ℕ
@@ -102,19 +99,19 @@ module _ (L : ℕ) (p : Pool) (size i : ℕ) (small : size ≤ 64) (more : get_o
     par_not n j a = hidden_not N N' next i size s Q.sound.tree ((links_of N).par n) (asked N (ground L A p Q) n j a).hidden
 
     -- walks of other nodes are as before
-    walk : {E : ℕ → ℕ → Slot} {n j : ℕ} {x : Found} → (n ≡ i → ⊥) → Near (links_of N) E n j x → Near (links_of N') E n j x
+    walk : {E : ℕ → ℕ → Option PageState} {n j : ℕ} {x : Option ℕ} → (n ≡ i → ⊥) → Near (links_of N) E n j x → Near (links_of N') E n j x
     walk ne (none {n} {p = j} a z) = none {n = n} {p = j} (rw (s.at_old n ne) a) z
     walk ne (here {n} {p = j} {s = e} a h t y) = here {n = n} {p = j} {s = e} (rw (s.at_old n ne) a) (rw (s.at_old n ne) h) (rw (s.at_old n ne, s.at_old ((links_of N).par n) (par_not n j a)) t) y
     walk ne (up {n} {p = j} {x} a h d) = up {n = n} {p = j} {x = x} (rw (s.at_old n ne) a) (rw (s.at_old n ne) h) (rw (s.at_old n ne) (walk (par_not n j a) d))
 
-    sees : (E : ℕ → ℕ → Slot) (n j : ℕ) (x : Found) → (n ≡ i → ⊥) → View (links_of N) E n j x → View (links_of N') E n j x
+    sees : (E : ℕ → ℕ → Option PageState) (n j : ℕ) (x : Option ℕ) → (n ≡ i → ⊥) → View (links_of N) E n j x → View (links_of N') E n j x
     sees E n j x ne (own h y) = own h y
     sees E n j x ne (above h d) = above h (walk ne d)
 
     shows_new : (j : ℕ) → Shows L left i j (blank_array A i i j)
     shows_new j =
         record {
-          source = Nothing;
+          source = None;
           view = above (empty_by (slot_at p.pages i j) (λ e h. no_entry N N' next i size s Q.sound.tree p.pages p.used Q.sound.entries i j e h refl)) (none {n = i} {p = j} (rw s.at_new) refl);
           bytes = λ k h. sym (blank-new A i j k);
         }
@@ -144,11 +141,11 @@ module _ (L : ℕ) (p : Pool) (size i : ℕ) (small : size ≤ 64) (more : get_o
 -- the step of new
 
 module _ (p : Pool) (size : ℕ) (len : length p.nodes ≡ 1024) (B : Outcome Answer → Type 0) (stay : B (refused p [] [] NoNode))
-    (birth : (i : ℕ) → get_or p.head 0 0 ≤ last_owner → Free p.nodes 0 i → B (leaf_at p size (At i))) where
-  leaf_by : get_or p.head 0 0 ≤ last_owner → (f : Found) → free_node_in p.nodes ≡ f → B (leaf_at p size f)
+    (birth : (i : ℕ) → get_or p.head 0 0 ≤ last_owner → Free p.nodes 0 i → B (leaf_at p size (Some i))) where
+  leaf_by : get_or p.head 0 0 ≤ last_owner → (f : Option ℕ) → free_node_in p.nodes ≡ f → B (leaf_at p size f)
   unfolding leaf_at
-  leaf_by l (At i) e = birth i l (found_free p.nodes len i e)
-  leaf_by l Nothing e = stay
+  leaf_by l (Some i) e = birth i l (found_free p.nodes len i e)
+  leaf_by l None e = stay
 
   -- what holds of the refusal and of each birth holds of it
   new_by_lem : B (new_leaf p size)

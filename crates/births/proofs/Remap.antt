@@ -1,4 +1,5 @@
 -- append_mapping and remove_mapping keep pools sound and every object's array: they change the list of mappings alone. Assumes nothing.
+use Rattle.std.specs.Prelude.{Ok}
 use mathlib.Core.Path.{◌≡◌, refl}
 use mathlib.Core.Bool.{Bool, true, false, ◌&&◌}
 use mathlib.Core.List.{List, []}
@@ -9,7 +10,6 @@ use Rattle.logic.specs.Pick.{pick}
 use Rattle.logic.proofs.Laws.{and_left, and_right}
 use Rattle.tables.specs.Pool.{Pool}
 use Rattle.mappings.specs.Mappings.{append, removed}
-use Rattle.outcome.specs.declared.answer.Answer.TheVariants.{Done}
 use Rattle.outcome.specs.declared.answer.Refusal.TheVariants.{InvalidArgs}
 use Rattle.outcome.specs.Outcome.{refused}
 use Rattle.pool.specs.Calls.{saying}
@@ -81,7 +81,7 @@ module _ (L : ℕ) (p : Pool) (S : Sound L p) where
   unfolding remove_at
   remove_relists n mapping = by (ltb mapping 64)
     where
-      by : (b : Bool) → Relisted p (pick b (saying (Done 0) (with_mappings p (removed p.mappings n mapping))) (saying (Done 0) p)).pool
+      by : (b : Bool) → Relisted p (pick b (saying (Ok 0) (with_mappings p (removed p.mappings n mapping))) (saying (Ok 0) p)).pool
       by true = record { list = removed p.mappings n mapping; same = refl; listing = removed_listing p.nodes p.mappings ok n mapping }
       by false = unlisted
 

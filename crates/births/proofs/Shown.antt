@@ -1,10 +1,11 @@
 -- A born child reads a part of the object's array, and every other object what it read. Assumes nothing.
+use Rattle.std.specs.Prelude.{Option}
+use Rattle.entry.specs.declared.PageState.{PageState}
 use mathlib.Core.Path.{◌≡◌, sym, ap, ◌∙◌, subst}
 use mathlib.Core.List.{List}
 use Prim.Native.Nat.{ℕ, ◌+◌, ◌≤◌, ◌<◌}
 use native.Mathlib.Omega.{arith}
 use lib.ListN.{get_or}
-use Rattle.entry.specs.declared.Slot.{Slot}
 use Rattle.logic.proofs.Means.{equal, split}
 use Rattle.node.specs.Node.{last_owner, leaf_of}
 use Rattle.tables.specs.Pool.{Pool}
@@ -36,10 +37,10 @@ module _ (L : ℕ) (p : Pool) (n x c first pages : ℕ) (g : Granted p.nodes n x
   abbrev M' : List ℕ
   M' = born_nodes M (birth_by n c x first pages) (get_or p.head 0 0)
 
-  abbrev E : ℕ → ℕ → Slot
+  abbrev E : ℕ → ℕ → Option PageState
   E = slot_at p.pages
 
-  abbrev E' : ℕ → ℕ → Slot
+  abbrev E' : ℕ → ℕ → Option PageState
   E' = slot_at (row_moved p.pages n x)
 
   abbrev q : Pool

@@ -1,18 +1,17 @@
 -- What a call that gives birth to an object leaves.
-use Rattle.std.specs.Prelude.{◌≡◌, ℕ}
+use Rattle.std.specs.Prelude.{◌≡◌, ℕ, Ok, Err}
+use Rattle.outcome.specs.Answers.{Answer}
 use Rattle.node.specs.Node.{leaf_of}
 use Rattle.tables.specs.Pool.{Pool}
 use Rattle.tables.specs.Tables.{node_of}
-use Rattle.outcome.specs.declared.answer.Answer.{Answer}
-use Rattle.outcome.specs.declared.answer.Answer.TheVariants.{Done, Refused}
 use Rattle.sound.specs.Facts.{Leaf}
 use Rattle.isolation.specs.Private.{Private}
 use Rattle.births.specs.Arrays.{blank_array, clone_array}
 
 -- refused it leaves pool p as it was; done it answers the object's number, and Q says what it leaves
 abbrev pub Gave : Pool → (ℕ → Pool → Type 0) → Answer → Pool → Type 0
-Gave p Q (Done i) q = Q i q
-Gave p Q (Refused r) q = q ≡ p
+Gave p Q (Ok i) q = Q i q
+Gave p Q (Err r) q = q ≡ p
 
 -- object i of so many pages, which was no live node; the other objects are those of before, with their sizes; the arrays are A
 pub record Newborn (L : ℕ) (A : ℕ → ℕ → ℕ → ℕ) (p : Pool) (pages i : ℕ) (q : Pool) : Type 0 where

@@ -1,5 +1,6 @@
 -- The cut of a range at page boundaries: blocks lie inside their pages, touch one another, and end where the range does. Assumes nothing.
-use mathlib.Core.Path.{◌≡◌, refl, sym, ap, subst, ◌∙◌}
+use Rattle.std.specs.Prelude.{None, Some}
+use mathlib.Core.Path.{◌≡◌, refl, subst}
 use mathlib.Core.Bool.{Bool, true, false}
 use Prim.Native.Nat.{ℕ, ◌+◌, ◌-◌, ◌*◌, ◌/◌, ◌%◌, ◌≤◌, ◌<◌}
 use native.Mathlib.Omega.{arith}
@@ -8,12 +9,10 @@ use borrow.Author.Tests.{le-leb, lt-leb, leb-true, leb-false, eqb-true, eqb-fals
 use Rattle.logic.specs.Pick.{pick}
 use Rattle.blocks.specs.declared.BlockIter.{BlockIter}
 use Rattle.blocks.specs.declared.BlockRange.{BlockRange}
-use Rattle.blocks.specs.declared.Next.{Next}
-use Rattle.blocks.specs.declared.Next.TheVariants.{Block, Done}
 use Rattle.blocks.specs.Blocks.{iter_of, range_of, block_end, next_by, next_of}
 
 -- a range of length 0 gives no block
-pub none : (L : ℕ) (it : BlockIter) → it.end ≤ it.begin → next_of L it ≡ Done
+pub none : (L : ℕ) (it : BlockIter) → it.end ≤ it.begin → next_of L it ≡ None
 unfolding next_of
 none L it h = rw (le-leb _ _ h)
 
@@ -29,7 +28,7 @@ pub record First (it : BlockIter) (b : BlockRange) (rest : BlockIter) : Type 0 w
 pub record Cut (it : BlockIter) : Type 0 where
   pub block : BlockRange
   pub rest : BlockIter
-  pub next : next_of 4096 it ≡ Block block rest
+  pub next : next_of 4096 it ≡ Some (block, rest)
   pub first : First it block rest
 
 first_by : (b : Bool) (x e : ℕ) → eqb (x / 4096) (e / 4096) ≡ b → x < e → First (iter_of x e) (range_of (x / 4096) (x % 4096) (pick b (e % 4096) 4096)) (iter_of (x + (pick b (e % 4096) 4096 - x % 4096)) e)
@@ -52,28 +51,14 @@ cut it h =
     }
 
 -- the same from what `next` answers
-block_in : BlockRange → Next → BlockRange
-block_in d (Block b r) = b
-block_in d Done = d
-
-rest_in : BlockIter → Next → BlockIter
-rest_in d (Block b r) = r
-rest_in d Done = d
-
-is_block : Next → ℕ
-is_block (Block b r) = 1
-is_block Done = 0
-
-first_when : (it : BlockIter) (b : BlockRange) (r : BlockIter) (t : Bool) → leb it.end it.begin ≡ t → next_of 4096 it ≡ Block b r → First it b r
-unfolding block_in rest_in is_block
+first_when : (it : BlockIter) (b : BlockRange) (r : BlockIter) (t : Bool) → leb it.end it.begin ≡ t → next_of 4096 it ≡ Some (b, r) → First it b r
 first_when it b r true t e =
     let d = none 4096 it (leb-true _ _ t) in
-    let z : ◌≡◌ {A = ℕ} 0 1 = ap is_block (sym d ∙ e) in
-    absurd (omega (arith, z))
+    absurd cc
 first_when it b r false t e =
     let k = cut it (leb-false _ _ t) in
-    let h = sym k.next ∙ e in
-    subst (λ (x : BlockIter). First it b x) (ap (rest_in r) h) (subst (λ (x : BlockRange). First it x k.rest) (ap (block_in b) h) k.first)
+    let same : ◌≡◌ {A = BlockRange × BlockIter} (k.block, k.rest) (b, r) = cc in
+    subst (λ (x : BlockRange × BlockIter). First it x.0 x.1) same k.first
 
-pub first_of : (it : BlockIter) {b : BlockRange} {r : BlockIter} {n : Next} → n ≡ next_of 4096 it → n ≡ Block b r → First it b r
-first_of it {b} {r} e h = first_when it b r _ refl (sym e ∙ h)
+pub first_of : (it : BlockIter) {b : BlockRange} {r : BlockIter} → next_of 4096 it ≡ Some (b, r) → First it b r
+first_of it {b} {r} h = first_when it b r _ refl h

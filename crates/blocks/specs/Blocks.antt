@@ -1,10 +1,8 @@
 -- A byte range cut at the boundaries of pages of L bytes (block_range.rs 29 to 52; vm/mod.rs 29 to 47).
-use Rattle.std.specs.Prelude.{ℕ, ◌+◌, ◌-◌, ◌/◌, ◌%◌, Bool, eqb, leb}
+use Rattle.std.specs.Prelude.{ℕ, ◌+◌, ◌-◌, ◌/◌, ◌%◌, Bool, eqb, leb, ◌≡◌, Option, None, Some, MatchOption}
 use Rattle.logic.specs.Pick.{pick}
 use Rattle.blocks.specs.declared.BlockIter.{BlockIter}
 use Rattle.blocks.specs.declared.BlockRange.{BlockRange}
-use Rattle.blocks.specs.declared.Next.{Next}
-use Rattle.blocks.specs.declared.Next.TheVariants.{Block, Done}
 
 abbrev pub aligned_of : ℕ → ℕ → Bool
 aligned_of L x = eqb (x % L) 0
@@ -24,12 +22,15 @@ unfoldable pub block_end : ℕ → BlockIter → ℕ
 block_end L it = pick (eqb (it.begin / L) (it.end / L)) (it.end % L) L
 
 -- the first block, and what is left after it, 32
-unfoldable pub next_by : ℕ → BlockIter → ℕ → Next
-next_by L it e =
-    Block (range_of (it.begin / L) (it.begin % L) e) (iter_of (it.begin + (e - it.begin % L)) it.end)
+unfoldable pub next_by : ℕ → BlockIter → ℕ → BlockRange × BlockIter
+next_by L it e = (range_of (it.begin / L) (it.begin % L) e, iter_of (it.begin + (e - it.begin % L)) it.end)
 
-unfoldable pub next_of : ℕ → BlockIter → Next
-next_of L it = pick (leb it.end it.begin) Done (next_by L it (block_end L it))
+unfoldable pub next_of : ℕ → BlockIter → Option (BlockRange × BlockIter)
+next_of L it = pick (leb it.end it.begin) None (Some (next_by L it (block_end L it)))
+
+-- a call of `next` gave the first block and left the rest, or there is none
+abbrev pub Gives : ℕ → BlockIter → Option BlockRange → BlockIter → Type 0
+Gives L it r rest = MatchOption r ((next_of L it ≡ None) × (rest ≡ it)) (λ b. next_of L it ≡ Some (b, rest))
 
 -- how many blocks there are: the pages that the range touches
 unfoldable pub count_of : ℕ → BlockIter → ℕ

@@ -1,30 +1,25 @@
 // A byte range cut at page boundaries (block_range.rs; page_aligned and pages of vm/mod.rs). The block size is the page's.
 
-#![tactic(auto)]
+#![tactic(auto, unfolding(crate::specs::Blocks::pages_of, crate::specs::Blocks::block_end, crate::specs::Blocks::next_of, crate::specs::Blocks::next_by, crate::specs::Blocks::count_of))]
 
 ghost use Rattle.std.specs.Prelude.{◌≡◌, ◌+◌, ◌-◌, ◌%◌, ◌≤◌, ◌<◌};
-ghost use Rattle.blocks.specs.Blocks.{aligned_of, pages_of, block_end, next_of, count_of};
+ghost use Rattle.std.specs.Iterator.{at_most};
+ghost use Rattle.blocks.specs.Blocks.{aligned_of, pages_of, block_end, Gives, count_of};
 
 pub const PAGE_SIZE: u64 = 4096;
 
-#[derive(Clone, Copy)]
+#[derive(Clone, Copy, Debug, PartialEq, Eq)]
 pub struct BlockIter {
     pub begin: u64,
     pub end: u64,
 }
 
-#[derive(Clone, Copy)]
+// Part of a block. Any ends: the rules speak of all, so no order is in the type.
+#[derive(Clone, Copy, Debug, PartialEq, Eq)]
 pub struct BlockRange {
     pub block: u64,
     pub begin: u64,
     pub end: u64,
-}
-
-// The next block with the rest of the range, or the end.
-#[derive(Clone, Copy)]
-pub enum Next {
-    Block(BlockRange, BlockIter),
-    Done,
 }
 
 pub fn page_aligned(x: u64) -> bool
@@ -37,11 +32,7 @@ pub fn page_aligned(x: u64) -> bool
 pub fn pages(size: u64) -> u64
     ensures { result ≡ pages_of 4096 size }
 {
-    let whole = size / PAGE_SIZE;
-    if size % PAGE_SIZE == 0 {
-        return whole;
-    }
-    whole + 1
+    size.div_ceil(PAGE_SIZE)
 }
 
 impl BlockRange {
@@ -61,36 +52,39 @@ impl BlockIter {
         ensures inside { (self.begin % 4096 < result) × (self.begin + (result - self.begin % 4096) ≤ self.end) }
     {
         if self.begin / PAGE_SIZE == self.end / PAGE_SIZE {
-            return self.end % PAGE_SIZE;
+            self.end % PAGE_SIZE
+        } else {
+            PAGE_SIZE
         }
-        PAGE_SIZE
     }
 
-    pub fn next(self) -> Next
-        ensures { result ≡ next_of 4096 self }
+    // How many blocks are left.
+    pub fn block_count(self) -> u64
+        ensures { result ≡ count_of 4096 self }
     {
         if self.end <= self.begin {
-            return Next::Done;
+            0
+        } else {
+            pages(self.end) - self.begin / PAGE_SIZE
+        }
+    }
+}
+
+impl Iterator for BlockIter {
+    type Item = BlockRange;
+
+    ghost next_gives = { Gives 4096 };
+
+    ghost remaining = { λ it. at_most (it.end - it.begin) };
+
+    fn next(&mut self) -> Option<BlockRange> {
+        if self.end <= self.begin {
+            return None;
         }
         let block = self.begin / PAGE_SIZE;
         let begin = self.begin % PAGE_SIZE;
         let end = self.block_end();
-        Next::Block(
-            BlockRange { block, begin, end },
-            BlockIter {
-                begin: self.begin + (end - begin),
-                end: self.end,
-            },
-        )
-    }
-
-    // How many blocks are left.
-    pub fn count(self) -> u64
-        ensures { result ≡ count_of 4096 self }
-    {
-        if self.end <= self.begin {
-            return 0;
-        }
-        pages(self.end) - self.begin / PAGE_SIZE
+        self.begin += end - begin;
+        Some(BlockRange { block, begin, end })
     }
 }

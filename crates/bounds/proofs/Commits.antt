@@ -1,4 +1,6 @@
 -- commit_page loses no notice, and for reading a page of a live object it is never refused. Assumes nothing.
+use Rattle.std.specs.Prelude.{Ok}
+use Rattle.outcome.specs.Answers.{Answer}
 use mathlib.Core.Path.{◌≡◌, refl, ap, ◌∙◌}
 use mathlib.Core.Bool.{Bool, true, false}
 use mathlib.Core.List.{List, []}
@@ -12,15 +14,12 @@ use Rattle.tables.specs.Pool.{Pool}
 use Rattle.tables.specs.Tables.{node_of}
 use Rattle.outcome.specs.Told.{Told, told_of}
 use Rattle.sound.specs.Facts.{Leaf, Sound}
-use Rattle.lookup.specs.declared.Committed.{Committed}
 use Rattle.lookup.specs.Work.{Work, work_of}
-use Rattle.lookup.specs.Commit.{Committing, commit_leaf}
+use Rattle.lookup.specs.Commit.{Committing, commit_leaf, Committed}
 use Rattle.outcome.specs.declared.answer.Refusal.TheVariants.{NoRoom}
-use Rattle.pool.specs.declared.entering.Entered.TheVariants.{At}
 use Rattle.pool.specs.Calls.{entered, on_entered, on_object}
 use Rattle.pool.proofs.Laws.{enters, entered_at}
 use Rattle.outcome.specs.Room.{live_count, room_of}
-use Rattle.outcome.specs.declared.answer.Answer.{Answer}
 use Rattle.outcome.specs.Outcome.{Outcome, refused}
 use Rattle.commit.specs.Commit.{committed_answer, page_refusal, committed_outcome, commit_page_at, commit_page}
 use Rattle.logic.proofs.Means.{most, split}
@@ -109,7 +108,7 @@ module _ (L : ℕ) (p : Pool) (object page : ℕ) where
       (λ s. silent _ (λ list. refl)) (silent _ (λ list. refl)) (λ s l leaf. node_loses L p object page (sound_facts L p s) leaf write)
 
   -- every page of every object of a sound pool can be read
-  pub commit-reads : (list : List ℕ) (n : ℕ) → entered L p object ≡ At n → page < (node_of p.nodes n).size → Given (commit_page L p list object page false).answer
+  pub commit-reads : (list : List ℕ) (n : ℕ) → entered L p object ≡ Ok n → page < (node_of p.nodes n).size → Given (commit_page L p list object page false).answer
   unfolding on_object on_entered
   commit-reads list n e l =
       let f = entered_at L p object n e in

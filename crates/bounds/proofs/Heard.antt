@@ -1,4 +1,5 @@
 -- An object's mappings, and the mappings of all leaves below a node, hear of a change at most once each. Assumes nothing.
+use Rattle.std.specs.Prelude.{Option, Some, None}
 use mathlib.Core.Path.{◌≡◌, refl, sym, ap, ◌∙◌}
 use mathlib.Core.Bool.{Bool, true, false}
 use mathlib.Core.List.{List, [], ◌∷◌, ◌++◌}
@@ -12,8 +13,6 @@ use Rattle.logic.specs.Below.{sum_below}
 use Rattle.node.specs.Node.{hidden_of}
 use Rattle.tables.specs.Tables.{node_of, mapping_of, number_of}
 use Rattle.outcome.specs.declared.notice.Notice.{Notice}
-use Rattle.notices.specs.declared.Due.{Due}
-use Rattle.notices.specs.declared.Due.TheVariants.{Notice as Tell, Nothing}
 use Rattle.outcome.specs.Told.{Told}
 use Rattle.notices.specs.Notices.{overlap_of, tell_due, tell_place, tell_object, low_in, high_in, child_of, range_change}
 use Rattle.sound.specs.Facts.{Hidden, Tree}
@@ -57,11 +56,11 @@ module _ {M : List ℕ} where
 
 -- one object
 
-abbrev listed : Due → List Notice
-listed (Tell n) = n ∷ []
-listed Nothing = []
+abbrev listed : Option Notice → List Notice
+listed (Some n) = n ∷ []
+listed None = []
 
-module _ (M : List ℕ) (object offset len op : ℕ) where
+module _ (M : List ℕ) (object offset len : ℕ) (op : ℕ) where
   unfoldable due_at : ℕ → List Notice
   due_at i = pick (eqb (mapping_of M i).object object) (listed (overlap_of (mapping_of M i) offset len op)) []
 
@@ -73,9 +72,9 @@ module _ (M : List ℕ) (object offset len op : ℕ) where
   unfolding tell_place due_at put_all
   place_same t i = by (eqb (mapping_of M i).object object) (overlap_of (mapping_of M i) offset len op)
     where
-      by : (b : Bool) (d : Due) → pick b (tell_due t d) t ≡ put_all t (pick b (listed d) [])
-      by true (Tell n) = refl
-      by true Nothing = refl
+      by : (b : Bool) (d : Option Notice) → pick b (tell_due t d) t ≡ put_all t (pick b (listed d) [])
+      by true (Some n) = refl
+      by true None = refl
       by false d = refl
 
   object_same : (t : Told) (k : ℕ) → tell_object M t k object offset len op ≡ put_all t (due_to k)
@@ -95,13 +94,13 @@ module _ (M : List ℕ) (object offset len op : ℕ) where
       (λ z. rw (← overlap_free (mapping_of M i) offset len op z) (free (eqb (mapping_of M i).object object)))
       (λ ne. rw (ne_eqb _ _ ne) (most_one (eqb (mapping_of M i).object object) (overlap_of (mapping_of M i) offset len op)))
     where
-      free : (b : Bool) {n : ℕ} → length (pick b (listed Nothing) []) ≤ n
+      free : (b : Bool) {n : ℕ} → length (pick b (listed None) []) ≤ n
       free true = omega arith
       free false = omega arith
 
-      most_one : (b : Bool) (d : Due) → length (pick b (listed d) []) ≤ 1
-      most_one true (Tell n) = omega arith
-      most_one true Nothing = omega arith
+      most_one : (b : Bool) (d : Option Notice) → length (pick b (listed d) []) ≤ 1
+      most_one true (Some n) = omega arith
+      most_one true None = omega arith
       most_one false d = omega arith
 
   due_only : (i : ℕ) → 1 ≤ length (due_at i) → (mapping_of M i).object ≡ object

@@ -31,7 +31,7 @@ named_under m = rw (m.linked, child_is m.node) m.parent
 pub named_link : {N : List ℕ} {h link : ℕ} → Names N h link → link ≡ child_of link + 1
 named_link m = rw (m.linked, child_is m.node)
 
-module _ {N : List ℕ} (s : Short N) {next : ℕ} (tree : Tree N next) (M : List ℕ) (op j : ℕ) where
+module _ {N : List ℕ} (s : Short N) {next : ℕ} (tree : Tree N next) (M : List ℕ) (op : ℕ) (j : ℕ) where
   abbrev Enough : ℕ → ℕ → Type 0
   Enough k node = (lo hi : ℕ) (t : Told) → range_change k N M node lo hi op t ≡ range_change (k + j) N M node lo hi op t
 
@@ -62,6 +62,6 @@ module _ {N : List ℕ} (s : Short N) {next : ℕ} (tree : Tree N next) (M : Lis
   down_enough (suc k) d node e deep =
       step_enough k node (λ h c u. down_enough k (suc d) c (omega arith) (λ z. deep (rw (← u) (sym (above-next s d c) ∙ z))))
 
-pub range_enough : (L : ℕ) (p : Pool) → Sound L p → (k : ℕ) (M : List ℕ) (node lo hi op : ℕ) (t : Told) → range_change 64 p.nodes M node lo hi op t ≡ range_change (64 + k) p.nodes M node lo hi op t
+pub range_enough : (L : ℕ) (p : Pool) → Sound L p → (k : ℕ) (M : List ℕ) (node lo hi : ℕ) (op : ℕ) (t : Told) → range_change 64 p.nodes M node lo hi op t ≡ range_change (64 + k) p.nodes M node lo hi op t
 unfolding above
 range_enough L p sound k M node lo hi op t = down_enough (sound-short L p sound) sound.tree M op k 64 0 node (omega arith) (λ z. omega arith) lo hi t

@@ -51,11 +51,11 @@ heard_tells : (M : List ℕ) (P : ℕ → Type 0) {step : Told → Told} → Hea
 heard_tells M P h = record { notices = h.notices; few = once_few h.once; same = h.same }
 
 -- an object's mappings
-pub object_room : (M : List ℕ) (object offset len op : ℕ) → Tells (λ t. tell_object M t 64 object offset len op) (live_count M)
+pub object_room : (M : List ℕ) (object offset len : ℕ) (op : ℕ) → Tells (λ t. tell_object M t 64 object offset len op) (live_count M)
 object_room M object offset len op = heard_tells M (λ o. o ≡ object) (object_heard M object offset len op)
 
 -- the mappings of all leaves below a node
-pub range_room : (L : ℕ) (p : Pool) → Sound L p → (M : List ℕ) (node lo hi op : ℕ) → Tells (λ t. range_change 64 p.nodes M node lo hi op t) (live_count M)
+pub range_room : (L : ℕ) (p : Pool) → Sound L p → (M : List ℕ) (node lo hi : ℕ) (op : ℕ) → Tells (λ t. range_change 64 p.nodes M node lo hi op t) (live_count M)
 range_room L p sound M node lo hi op = heard_tells M _ (range_heard (sound-short L p sound) sound.tree M op 64 node lo hi)
 
 -- a page lookup from a leaf

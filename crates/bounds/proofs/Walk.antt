@@ -1,4 +1,6 @@
 -- On the way up the parent chain each step tells leaves that no step below tells. Assumes nothing.
+use Rattle.std.specs.Prelude.{Option, None, Some, Err}
+use Rattle.entry.specs.declared.PageState.{PageState}
 use mathlib.Core.Path.{◌≡◌, refl}
 use mathlib.Core.Bool.{Bool, false}
 use mathlib.Core.List.{List}
@@ -6,15 +8,13 @@ use mathlib.Core.Logic.{⊎_elim}
 use Prim.Native.Nat.{ℕ, zero, suc, ◌+◌}
 use native.Mathlib.Omega.{arith}
 use borrow.Author.Tests.{eq-eqb, ne_eqb}
-use Rattle.entry.specs.declared.Slot.{Slot}
-use Rattle.entry.specs.declared.Slot.TheVariants.{Empty, Held}
 use Rattle.node.specs.declared.Node.{Node}
 use Rattle.node.specs.Node.{hidden_of, side_of}
 use Rattle.tables.specs.Tables.{node_of}
-use Rattle.notices.specs.Notices.{range_change}
 use Rattle.outcome.specs.Told.{unmap}
+use Rattle.notices.specs.Notices.{range_change}
 use Rattle.sound.specs.Facts.{Tree}
-use Rattle.lookup.specs.declared.CommitResult.TheVariants.{Stopped}
+use Rattle.lookup.specs.declared.LookupError.TheVariants.{Stopped}
 use Rattle.lookup.specs.Work.{Work, work_of, Looking, looking_of}
 use Rattle.lookup.specs.declared.Place.{Place}
 use Rattle.lookup.specs.Mode.{Mode, today, place_of, node_at, other, asks}
@@ -64,9 +64,9 @@ alone : (m : Mode) (write : Bool) (w : Work) (p : Place) (above more : Looking) 
 unfolding enter_by asks
 alone m write w p above more e = by (slot_in w p)
   where
-    by : (s : Slot) → enter_by m write w p s above ≡ enter_by m write w p s more
-    by (Held s) = refl
-    by Empty = rw e
+    by : (s : Option PageState) → enter_by m write w p s above ≡ enter_by m write w p s more
+    by (Some s) = refl
+    by None = rw e
 
 module _ (L : ℕ) {N : List ℕ} (s : Short N) {next : ℕ} (tree : Tree N next) (M q u y : List ℕ) (write : Bool) where
   abbrev m : Mode
@@ -82,8 +82,8 @@ module _ (L : ℕ) {N : List ℕ} (s : Short N) {next : ℕ} (tree : Tree N next
   step_sent k node i asker settles in-node a b above =
       split (equal (node_of N node).parent 0)
       (λ z.
-      sent_in (λ t. alone m write (work_of q u y t) (place_of node i asker) _ (looking_of Stopped (work_of q u y t)) z) (λ o r. r)
-      (enter_sent L N M (place_of node i asker) write settles {P = λ o. ⊥} (λ o n x. n) (λ o n. absurd n) b (sent_none Stopped q u y) q u y))
+      sent_in (λ t. alone m write (work_of q u y t) (place_of node i asker) _ (looking_of (Err Stopped) (work_of q u y t)) z) (λ o r. r)
+      (enter_sent L N M (place_of node i asker) write settles {P = λ o. ⊥} (λ o n x. n) (λ o n. absurd n) b (sent_none (Err Stopped) q u y) q u y))
       (λ ne. enter_sent L N M (place_of node i asker) write settles (λ o n x. n (in-node o x)) a b (above _ _ (omega arith)) q u y)
 
   abbrev Aside : ℕ → ℕ → ℕ → Type 0
@@ -95,7 +95,7 @@ module _ (L : ℕ) {N : List ℕ} (s : Short N) {next : ℕ} (tree : Tree N next
   look_sent : (k asker : ℕ) → Asks k asker
   unfolding look_in
   look_sent zero asker node i under =
-      enter_sent L N M (place_of node i asker) write (settles node i asker under) (λ o n x. n) (λ o n. absurd n) (λ o x. x.1) (sent_none Stopped q u y) q u y
+      enter_sent L N M (place_of node i asker) write (settles node i asker under) (λ o n x. n) (λ o n. absurd n) (λ o x. x.1) (sent_none (Err Stopped) q u y) q u y
   look_sent (suc k) asker node i under =
       step_sent k node i asker (settles node i asker under) (λ o x. x.0) (λ o n b. n (below_parent s node asker o under b)) (λ o x. x.1) (look_sent k node)
 

@@ -2,9 +2,8 @@
 use Rattle.std.specs.Prelude.{◌≡◌, List, [], ◌∷◌, ℕ, ◌+◌, ◌*◌, ◌≤◌, ◌<◌, length, get_or}
 use Rattle.outcome.specs.declared.notice.Notice.{Notice}
 use Rattle.outcome.specs.Told.{Told, notice_by, put_notice}
-use Rattle.lookup.specs.declared.Committed.{Committed}
 use Rattle.lookup.specs.Work.{work_of}
-use Rattle.lookup.specs.Commit.{Committing, committing_of}
+use Rattle.lookup.specs.Commit.{Committing, committing_of, Committed}
 
 -- the notices put one after the other
 unfoldable pub put_all : Told → List Notice → Told

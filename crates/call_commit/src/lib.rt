@@ -2,171 +2,126 @@
 
 #![tactic(auto)]
 
-ghost use Rattle.std.specs.Prelude.{◌≡◌, List, [], ℕ, ◌+◌, ◌≤◌, ◌<◌};
+ghost use Rattle.std.specs.Prelude.{◌≡◌, List, [], ℕ, ◌+◌, ◌≤◌, ◌<◌, Ok};
 ghost use Rattle.node.specs.Node.{byte_limit};
-ghost use Rattle.outcome.specs.Outcome.{outcome};
-ghost use Rattle.tables.specs.Pool.{pool_of};
-ghost use Rattle.outcome.specs.Told.{told_of};
-ghost use Rattle.lookup.specs.Work.{work_of};
-ghost use Rattle.outcome.specs.declared.answer.Against.TheVariants.{Nothing as Fine};
+ghost use Rattle.outcome.specs.Outcome.{outcome, reply_by};
+ghost use Rattle.outcome.specs.Lent.{SameList, told_at};
+ghost use Rattle.lookup.specs.Lent.{SameStore, pool_with, work_in};
 ghost use Rattle.page.specs.Each.{part_of};
-ghost use Rattle.ranges.specs.Ranges.{against_committing, commit_range, commit_through, commit_at, commit};
+ghost use Rattle.ranges.specs.Ranges.{against_committing, commit_range, commit_through, commit};
 
-use outcome::{Against, Refusal, Reply};
-use page::CommitPart;
-use pool::Entered;
+use lookup::Store;
+use outcome::{Notices, Refusal, Reply};
+use tables::Tree;
 
+#[tactic(auto, unfolding(ranges::specs::Ranges::against_committing))]
 fn against_committing(
-    nodes: &[u32],
-    mappings: &[u32],
+    tree: Tree,
     notices: &[u32],
     node: u32,
     offset: u64,
     len: u64,
-) -> Against
-    ensures value { result ≡ against_committing 4096 nodes.now mappings.now notices.now node offset len }
-    ensures fits { result ≡ Fine → offset + len < byte_limit }
+) -> Result<(), Refusal>
+    ensures value { result ≡ against_committing 4096 tree.entry.nodes.now tree.entry.mappings.now notices.now node offset len }
+    ensures fits { result ≡ Ok tt → offset + len < byte_limit }
 {
-    let n = tables::node_at(nodes, node);
+    let n = tables::node_at(tree.nodes, node);
     if !n.contains(offset, len) {
-        return Against::Why(Refusal::OutOfRange);
+        return Err(Refusal::OutOfRange);
     }
-    if outcome::has_room(mappings, notices, len / 4096) {
-        return Against::Nothing;
+    if outcome::has_room(tree.mappings, notices, len / blocks::PAGE_SIZE) {
+        return Ok(());
     }
-    Against::Why(Refusal::NoRoom)
+    Err(Refusal::NoRoom)
 }
 
-// Page by page, up to the first refusal.
+// Page by page, up to the first refusal. No generic one with call_write's: what they are lent differs.
 fn commit_range(
-    nodes: &[u32],
-    pages: &mut [u32],
-    used: &mut [u8],
-    mappings: &[u32],
-    memory: &mut [u8],
-    notices: &mut [u32],
+    tree: Tree,
+    store: &mut Store,
+    notices: &mut Notices,
     node: u32,
     first: u64,
     total: u64,
-) -> CommitPart
+) -> Result<(), Refusal>
     requires { first + total ≤ 4294967296 }
-    ensures { part_of result.why result.rest (work_of pages.new used.new memory.new (told_of notices.new result.count))
-        ≡ commit_range 4096 nodes.now mappings.now node first total (work_of pages.old used.old memory.old (told_of notices.old 0)) }
+    ensures store { SameStore store.old store.new }
+    ensures list { SameList notices.old notices.new }
+    ensures value { (rest : ℕ) × (part_of result rest (work_in store.new (told_at notices.new))
+        ≡ commit_range 4096 tree.entry.nodes.now tree.entry.mappings.now node first total (work_in store.old (told_at notices.old))) }
 {
-    let mut page = first;
-    let mut left = total;
-    let mut count = 0;
-    while left > 0 {
-        left -= 1;
-        let part = page::commit_one(
-            nodes, pages, used, mappings, memory, notices, count, node, page,
-        );
-        page = part.rest;
-        count = part.count;
-        let why = part.why;
-        match why {
-            Against::Why(r) => {
-                let why = Against::Why(r);
-                return CommitPart {
-                    why,
-                    rest: page,
-                    count,
-                };
-            }
-            Against::Nothing => {}
-        }
+    for page in first..first + total {
+        page::commit_one(tree, store, notices, node, page)?;
     }
-    let why = Against::Nothing;
-    CommitPart {
-        why,
-        rest: page,
-        count,
-    }
+    Ok(())
 }
 
+#[tactic(auto, using(ranges::proofs::Laws::and_done), unfolding(ranges::specs::Ranges::commit_through, ranges::specs::Ranges::committed, ranges::specs::Ranges::ranged_by))]
 fn commit_through(
-    nodes: &[u32],
-    pages: &mut [u32],
-    used: &mut [u8],
-    mappings: &[u32],
-    memory: &mut [u8],
+    tree: Tree,
+    store: &mut Store,
     notices: &mut [u32],
     node: u32,
     offset: u64,
     len: u64,
 ) -> Reply
     requires { offset + len ≤ byte_limit }
-    ensures { (head : List ℕ) →
-        outcome result (pool_of nodes.now pages.new used.new mappings.now head memory.new) notices.new []
-        ≡ commit_through 4096 (pool_of nodes.now pages.old used.old mappings.now head memory.old) notices.old node offset len }
+    ensures same { SameStore store.old store.new }
+    ensures value { (head : List ℕ) →
+        outcome result (pool_with tree.entry head store.new) notices.new []
+        ≡ commit_through 4096 (pool_with tree.entry head store.old) notices.old node offset len }
 {
-    let free = frames::free_count(used);
-    let part = commit_range(
-        nodes,
-        pages,
-        used,
-        mappings,
-        memory,
-        notices,
+    let free = frames::free_count(store.flags());
+    let mut told = Notices::new(notices);
+    let committed = commit_range(
+        tree,
+        store,
+        &mut told,
         node,
-        offset / 4096,
-        len / 4096,
+        offset / blocks::PAGE_SIZE,
+        len / blocks::PAGE_SIZE,
     );
-    let why = part.why;
-    let answer = ranges::answer_by(why, 0);
     Reply {
-        answer,
+        answer: committed.and(Ok(0)),
         done: 0,
-        taken: ranges::fall(free, frames::free_count(used)),
-        count: part.count,
+        taken: free.saturating_sub(frames::free_count(store.flags())),
+        count: told.count,
     }
 }
 
-fn commit_at(
-    nodes: &[u32],
-    pages: &mut [u32],
-    used: &mut [u8],
-    mappings: &[u32],
-    memory: &mut [u8],
+// Its tests, then the work; write's and commit_page's have other tests and other loans, so they share no generic one.
+#[tactic(auto, unfolding(ranges::specs::Ranges::commit_at, pool::specs::Calls::on_object, pool::specs::Calls::on_entered))]
+fn try_commit(
+    tree: Tree,
+    head: &[u32],
+    store: &mut Store,
     notices: &mut [u32],
-    node: u32,
+    object: u64,
     offset: u64,
     len: u64,
-) -> Reply
-    ensures { (head : List ℕ) →
-        outcome result (pool_of nodes.now pages.new used.new mappings.now head memory.new) notices.new []
-        ≡ commit_at 4096 (pool_of nodes.now pages.old used.old mappings.now head memory.old) notices.old node offset len }
+) -> Result<Reply, Refusal>
+    ensures same { SameStore store.old store.new }
+    ensures value { outcome (reply_by result) (pool_with tree.entry head.now store.new) notices.new []
+        ≡ commit 4096 (pool_with tree.entry head.now store.old) notices.old object offset len }
 {
-    let against = against_committing(nodes, mappings, notices, node, offset, len);
-    match against {
-        Against::Why(why) => return Reply::refused(why),
-        Against::Nothing => return commit_through(
-            nodes, pages, used, mappings, memory, notices, node, offset, len,
-        ),
-    }
+    let node = pool::enter(store.view(tree, head), object)?;
+    against_committing(tree, notices, node, offset, len)?;
+    Ok(commit_through(tree, store, notices, node, offset, len))
 }
 
 // A frame of its own for each page of an object's range.
 pub fn commit(
-    nodes: &[u32],
-    pages: &mut [u32],
-    used: &mut [u8],
-    mappings: &[u32],
+    tree: Tree,
     head: &[u32],
-    memory: &mut [u8],
+    store: &mut Store,
     notices: &mut [u32],
     object: u64,
     offset: u64,
     len: u64,
 ) -> Reply
-    ensures { outcome result (pool_of nodes.now pages.new used.new mappings.now head.now memory.new) notices.new []
-        ≡ commit 4096 (pool_of nodes.now pages.old used.old mappings.now head.now memory.old) notices.old object offset len }
+    ensures same { SameStore store.old store.new }
+    ensures value { outcome result (pool_with tree.entry head.now store.new) notices.new []
+        ≡ commit 4096 (pool_with tree.entry head.now store.old) notices.old object offset len }
 {
-    let entered = pool::enter(nodes, pages, used, mappings, head, memory, object);
-    match entered {
-        Entered::At(node) => return commit_at(
-            nodes, pages, used, mappings, memory, notices, node, offset, len,
-        ),
-        Entered::Refused(why) => return Reply::refused(why),
-    }
+    Reply::of_work(try_commit(tree, head, store, notices, object, offset, len))
 }

@@ -2,116 +2,78 @@
 
 #![tactic(auto)]
 
-ghost use Rattle.std.specs.Prelude.{◌≡◌, List, [], ℕ, ◌+◌, ◌≤◌, ◌<◌, length};
+ghost use Rattle.std.specs.Prelude.{◌≡◌, [], ◌+◌, ◌≤◌, ◌<◌, Ok};
 ghost use Rattle.node.specs.Node.{byte_limit};
-ghost use Rattle.outcome.specs.Outcome.{outcome};
-ghost use Rattle.tables.specs.Pool.{pool_of};
-ghost use Rattle.outcome.specs.declared.answer.Against.TheVariants.{Nothing as Fine};
-ghost use Rattle.page.specs.Each.{part_of};
-ghost use Rattle.page.specs.Pages.{read_of};
-ghost use Rattle.ranges.specs.Ranges.{against_reading, read_range, read_at, read};
+ghost use Rattle.blocks.specs.Blocks.{count_of};
+ghost use Rattle.outcome.specs.Outcome.{outcome, reply_of};
+ghost use Rattle.lookup.specs.Lent.{SameStore, pool_with};
+ghost use Rattle.page.specs.Each.{part_of, each};
+ghost use Rattle.page.specs.Pages.{read_page};
+ghost use Rattle.page.specs.Lent.{read_in};
+ghost use Rattle.ranges.specs.Ranges.{against_reading, read};
 
 use blocks::BlockIter;
-use outcome::{Against, Refusal, Reply};
-use page::ReadPart;
-use pool::Entered;
+use lookup::Store;
+use outcome::{Answer, Refusal};
+use tables::Tree;
 
-fn against_reading(nodes: &[u32], node: u32, offset: u64, len: u64) -> Against
+#[tactic(auto, unfolding(ranges::specs::Ranges::against_reading))]
+fn against_reading(nodes: &[u32], node: u32, offset: u64, len: u64) -> Result<(), Refusal>
     ensures value { result ≡ against_reading 4096 nodes.now node offset len }
-    ensures fits { result ≡ Fine → offset + len < byte_limit }
+    ensures fits { result ≡ Ok tt → offset + len < byte_limit }
 {
     let n = tables::node_at(nodes, node);
     if !n.is_cached() {
-        return Against::Why(Refusal::BadState);
+        return Err(Refusal::BadState);
     }
     if n.contains(offset, len) {
-        return Against::Nothing;
+        return Ok(());
     }
-    Against::Why(Refusal::OutOfRange)
+    Err(Refusal::OutOfRange)
 }
 
-// Page by page; on a sound pool none is refused.
+// Page by page; on a sound pool none is refused. No generic one with call_write's: what they are lent differs.
 fn read_range(
-    nodes: &[u32],
-    pages: &mut [u32],
-    used: &mut [u8],
-    mappings: &[u32],
-    memory: &mut [u8],
+    tree: Tree,
+    store: &mut Store,
     node: u32,
     offset: u64,
     buf: &mut [u8],
-) -> ReadPart
-    requires { offset + length buf.old ≤ byte_limit }
-    ensures { part_of result.why result.rest (read_of pages.new used.new memory.new buf.new)
-        ≡ read_range 4096 nodes.now mappings.now node offset (read_of pages.old used.old memory.old buf.old) }
+    it: &mut BlockIter,
+) -> Result<(), Refusal>
+    requires { (offset ≤ it.old.begin) × (it.old.end ≤ byte_limit) }
+    ensures same { SameStore store.old store.new }
+    ensures value { part_of result it.new (read_in store.new buf.new)
+        ≡ each (read_page 4096 tree.entry.nodes.now tree.entry.mappings.now node offset) (count_of 4096 it.old) it.old (read_in store.old buf.old) }
 {
-    let mut it = BlockIter {
-        begin: offset,
-        end: offset + buf.len() as u64,
-    };
-    let mut left = it.count();
-    while left > 0 {
-        left -= 1;
-        let part = page::read_page(nodes, pages, used, mappings, memory, node, offset, buf, it);
-        it = part.rest;
-        let why = part.why;
-        match why {
-            Against::Why(r) => {
-                let why = Against::Why(r);
-                return ReadPart { why, rest: it };
-            }
-            Against::Nothing => {}
-        }
+    // Not `for block in it`: the page takes its block when it is done, as the rule says it.
+    for _ in 0..it.block_count() {
+        page::read_page(tree, store, node, offset, buf, it)?;
     }
-    let why = Against::Nothing;
-    ReadPart { why, rest: it }
-}
-
-fn read_at(
-    nodes: &[u32],
-    pages: &mut [u32],
-    used: &mut [u8],
-    mappings: &[u32],
-    memory: &mut [u8],
-    node: u32,
-    offset: u64,
-    buf: &mut [u8],
-) -> Reply
-    ensures { (head : List ℕ) →
-        outcome result (pool_of nodes.now pages.new used.new mappings.now head memory.new) [] buf.new
-        ≡ read_at 4096 (pool_of nodes.now pages.old used.old mappings.now head memory.old) node offset buf.old }
-{
-    let against = against_reading(nodes, node, offset, buf.len() as u64);
-    match against {
-        Against::Why(why) => return Reply::refused(why),
-        Against::Nothing => {
-            let part = read_range(nodes, pages, used, mappings, memory, node, offset, buf);
-            let why = part.why;
-            return Reply::of(ranges::answer_by(why, 0));
-        }
-    }
+    Ok(())
 }
 
 // An object's bytes into the buffer.
+#[tactic(auto, unfolding(ranges::specs::Ranges::read_range, ranges::specs::Ranges::read_at, ranges::specs::Ranges::filled, pool::specs::Calls::on_object, pool::specs::Calls::on_entered))]
 pub fn read(
-    nodes: &[u32],
-    pages: &mut [u32],
-    used: &mut [u8],
-    mappings: &[u32],
+    tree: Tree,
     head: &[u32],
-    memory: &mut [u8],
+    store: &mut Store,
     object: u64,
     offset: u64,
     buf: &mut [u8],
-) -> Reply
-    ensures { outcome result (pool_of nodes.now pages.new used.new mappings.now head.now memory.new) [] buf.new
-        ≡ read 4096 (pool_of nodes.now pages.old used.old mappings.now head.now memory.old) object offset buf.old }
+) -> Answer
+    ensures same { SameStore store.old store.new }
+    ensures value { outcome (reply_of result) (pool_with tree.entry head.now store.new) [] buf.new
+        ≡ read 4096 (pool_with tree.entry head.now store.old) object offset buf.old }
 {
-    let entered = pool::enter(nodes, pages, used, mappings, head, memory, object);
-    match entered {
-        Entered::At(node) => return read_at(
-            nodes, pages, used, mappings, memory, node, offset, buf,
-        ),
-        Entered::Refused(why) => return Reply::refused(why),
-    }
+    let len = buf.len() as u64;
+    let node = pool::enter(store.view(tree, head), object)?;
+    against_reading(tree.nodes, node, offset, len)?;
+    let mut it = BlockIter {
+        begin: offset,
+        end: offset + len,
+    };
+    read_range(tree, store, node, offset, buf, &mut it)?;
+    Ok(0)
 }

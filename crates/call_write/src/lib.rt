@@ -2,173 +2,139 @@
 
 #![tactic(auto)]
 
-ghost use Rattle.std.specs.Prelude.{◌≡◌, List, [], ℕ, ◌+◌, ◌≤◌, ◌<◌, length};
+ghost use Rattle.std.specs.Prelude.{◌≡◌, List, [], ℕ, ◌+◌, ◌≤◌, ◌<◌, length, Ok};
 ghost use Rattle.node.specs.Node.{byte_limit};
-ghost use Rattle.outcome.specs.Outcome.{outcome};
-ghost use Rattle.tables.specs.Pool.{pool_of};
-ghost use Rattle.outcome.specs.Told.{told_of};
-ghost use Rattle.lookup.specs.Work.{work_of};
-ghost use Rattle.outcome.specs.declared.answer.Against.TheVariants.{Nothing as Fine};
-ghost use Rattle.page.specs.Each.{part_of};
-ghost use Rattle.ranges.specs.Ranges.{against_writing, write_range, write_through, write_at, write};
+ghost use Rattle.blocks.specs.Blocks.{count_of};
+ghost use Rattle.outcome.specs.Outcome.{outcome, reply_by};
+ghost use Rattle.outcome.specs.Lent.{SameList, told_at};
+ghost use Rattle.lookup.specs.Lent.{SameStore, pool_with, work_in};
+ghost use Rattle.page.specs.Each.{part_of, each};
+ghost use Rattle.page.specs.Pages.{write_page};
+ghost use Rattle.ranges.specs.Ranges.{against_writing, write_through, write};
 
 use blocks::BlockIter;
-use outcome::{Against, Refusal, Reply};
-use page::WritePart;
-use pool::Entered;
+use lookup::Store;
+use outcome::{Notices, Refusal, Reply};
+use tables::Tree;
 
+#[tactic(auto, using(ranges::proofs::Laws::count_small), unfolding(ranges::specs::Ranges::against_writing))]
 fn against_writing(
-    nodes: &[u32],
-    mappings: &[u32],
+    tree: Tree,
     notices: &[u32],
     node: u32,
     offset: u64,
     len: u64,
-) -> Against
-    ensures value { result ≡ against_writing 4096 nodes.now mappings.now notices.now node offset len }
-    ensures fits { result ≡ Fine → offset + len < byte_limit }
+) -> Result<(), Refusal>
+    ensures value { result ≡ against_writing 4096 tree.entry.nodes.now tree.entry.mappings.now notices.now node offset len }
+    ensures fits { result ≡ Ok tt → offset + len < byte_limit }
 {
-    let n = tables::node_at(nodes, node);
+    let n = tables::node_at(tree.nodes, node);
     let cached = n.is_cached();
     let inside = n.contains(offset, len);
     if !cached {
-        return Against::Why(Refusal::BadState);
+        return Err(Refusal::BadState);
     }
     if !inside {
-        return Against::Why(Refusal::OutOfRange);
+        return Err(Refusal::OutOfRange);
     }
     let range = BlockIter {
         begin: offset,
         end: offset + len,
     };
-    if outcome::has_room(mappings, notices, range.count()) {
-        return Against::Nothing;
+    if outcome::has_room(tree.mappings, notices, range.block_count()) {
+        return Ok(());
     }
-    Against::Why(Refusal::NoRoom)
+    Err(Refusal::NoRoom)
 }
 
-// Page by page, up to the first refusal.
+// Page by page, up to the first refusal. No generic one with call_commit's: what they are lent differs.
 fn write_range(
-    nodes: &[u32],
-    pages: &mut [u32],
-    used: &mut [u8],
-    mappings: &[u32],
-    memory: &mut [u8],
+    tree: Tree,
+    store: &mut Store,
+    notices: &mut Notices,
+    node: u32,
+    offset: u64,
+    bytes: &[u8],
+    it: &mut BlockIter,
+) -> Result<(), Refusal>
+    requires { (offset ≤ it.old.begin) × (it.old.end ≤ byte_limit) }
+    ensures store { SameStore store.old store.new }
+    ensures list { SameList notices.old notices.new }
+    ensures value { part_of result it.new (work_in store.new (told_at notices.new))
+        ≡ each (write_page 4096 tree.entry.nodes.now tree.entry.mappings.now node offset bytes.now) (count_of 4096 it.old) it.old (work_in store.old (told_at notices.old)) }
+    ensures fits { offset ≤ it.new.begin }
+{
+    // Not `for block in it`: the page takes its block when it is done, so that `it` says how far a refused call came.
+    for _ in 0..it.block_count() {
+        page::write_page(tree, store, notices, node, offset, bytes, it)?;
+    }
+    Ok(())
+}
+
+#[tactic(auto, using(ranges::proofs::Laws::and_done), unfolding(ranges::specs::Ranges::write_range, ranges::specs::Ranges::write_through, ranges::specs::Ranges::written, ranges::specs::Ranges::ranged_by))]
+fn write_through(
+    tree: Tree,
+    store: &mut Store,
     notices: &mut [u32],
     node: u32,
     offset: u64,
     bytes: &[u8],
-) -> WritePart
+) -> Reply
     requires { offset + length bytes.now ≤ byte_limit }
-    ensures value { part_of result.why result.rest (work_of pages.new used.new memory.new (told_of notices.new result.count))
-        ≡ write_range 4096 nodes.now mappings.now node offset bytes.now (work_of pages.old used.old memory.old (told_of notices.old 0)) }
-    ensures fits { offset ≤ result.rest.begin }
+    ensures same { SameStore store.old store.new }
+    ensures value { (head : List ℕ) →
+        outcome result (pool_with tree.entry head store.new) notices.new []
+        ≡ write_through 4096 (pool_with tree.entry head store.old) notices.old node offset bytes.now }
 {
+    let free = frames::free_count(store.flags());
+    let mut told = Notices::new(notices);
     let mut it = BlockIter {
         begin: offset,
         end: offset + bytes.len() as u64,
     };
-    let mut left = it.count();
-    let mut count = 0;
-    while left > 0 {
-        left -= 1;
-        let part = page::write_page(
-            nodes, pages, used, mappings, memory, notices, count, node, offset, bytes, it,
-        );
-        it = part.rest;
-        count = part.count;
-        let why = part.why;
-        match why {
-            Against::Why(r) => {
-                let why = Against::Why(r);
-                let rest = it;
-                return WritePart { why, rest, count };
-            }
-            Against::Nothing => {}
-        }
-    }
-    let why = Against::Nothing;
-    let rest = it;
-    WritePart { why, rest, count }
-}
-
-fn write_through(
-    nodes: &[u32],
-    pages: &mut [u32],
-    used: &mut [u8],
-    mappings: &[u32],
-    memory: &mut [u8],
-    notices: &mut [u32],
-    node: u32,
-    offset: u64,
-    bytes: &[u8],
-) -> Reply
-    requires { offset + length bytes.now ≤ byte_limit }
-    ensures { (head : List ℕ) →
-        outcome result (pool_of nodes.now pages.new used.new mappings.now head memory.new) notices.new []
-        ≡ write_through 4096 (pool_of nodes.now pages.old used.old mappings.now head memory.old) notices.old node offset bytes.now }
-{
-    let free = frames::free_count(used);
-    let part = write_range(
-        nodes, pages, used, mappings, memory, notices, node, offset, bytes,
-    );
-    let rest = part.rest;
-    let done = rest.begin - offset;
-    let why = part.why;
-    let answer = ranges::answer_by(why, done);
+    let wrote = write_range(tree, store, &mut told, node, offset, bytes, &mut it);
+    let done = it.begin - offset;
     Reply {
-        answer,
+        answer: wrote.and(Ok(done)),
         done,
-        taken: ranges::fall(free, frames::free_count(used)),
-        count: part.count,
+        taken: free.saturating_sub(frames::free_count(store.flags())),
+        count: told.count,
     }
 }
 
-fn write_at(
-    nodes: &[u32],
-    pages: &mut [u32],
-    used: &mut [u8],
-    mappings: &[u32],
-    memory: &mut [u8],
+// Its tests, then the work; commit's have other tests and other loans, so they share no generic one.
+#[tactic(auto, unfolding(ranges::specs::Ranges::write_at, pool::specs::Calls::on_object, pool::specs::Calls::on_entered))]
+fn try_write(
+    tree: Tree,
+    head: &[u32],
+    store: &mut Store,
     notices: &mut [u32],
-    node: u32,
+    object: u64,
     offset: u64,
     bytes: &[u8],
-) -> Reply
-    ensures { (head : List ℕ) →
-        outcome result (pool_of nodes.now pages.new used.new mappings.now head memory.new) notices.new []
-        ≡ write_at 4096 (pool_of nodes.now pages.old used.old mappings.now head memory.old) notices.old node offset bytes.now }
+) -> Result<Reply, Refusal>
+    ensures same { SameStore store.old store.new }
+    ensures value { outcome (reply_by result) (pool_with tree.entry head.now store.new) notices.new []
+        ≡ write 4096 (pool_with tree.entry head.now store.old) notices.old object offset bytes.now }
 {
-    let against = against_writing(nodes, mappings, notices, node, offset, bytes.len() as u64);
-    match against {
-        Against::Why(why) => return Reply::refused(why),
-        Against::Nothing => return write_through(
-            nodes, pages, used, mappings, memory, notices, node, offset, bytes,
-        ),
-    }
+    let node = pool::enter(store.view(tree, head), object)?;
+    against_writing(tree, notices, node, offset, bytes.len() as u64)?;
+    Ok(write_through(tree, store, notices, node, offset, bytes))
 }
 
 // Bytes into an object: those done, up to the first page that is refused.
 pub fn write(
-    nodes: &[u32],
-    pages: &mut [u32],
-    used: &mut [u8],
-    mappings: &[u32],
+    tree: Tree,
     head: &[u32],
-    memory: &mut [u8],
+    store: &mut Store,
     notices: &mut [u32],
     object: u64,
     offset: u64,
     bytes: &[u8],
 ) -> Reply
-    ensures { outcome result (pool_of nodes.now pages.new used.new mappings.now head.now memory.new) notices.new []
-        ≡ write 4096 (pool_of nodes.now pages.old used.old mappings.now head.now memory.old) notices.old object offset bytes.now }
+    ensures same { SameStore store.old store.new }
+    ensures value { outcome result (pool_with tree.entry head.now store.new) notices.new []
+        ≡ write 4096 (pool_with tree.entry head.now store.old) notices.old object offset bytes.now }
 {
-    let entered = pool::enter(nodes, pages, used, mappings, head, memory, object);
-    match entered {
-        Entered::At(node) => return write_at(
-            nodes, pages, used, mappings, memory, notices, node, offset, bytes,
-        ),
-        Entered::Refused(why) => return Reply::refused(why),
-    }
+    Reply::of_work(try_write(tree, head, store, notices, object, offset, bytes))
 }

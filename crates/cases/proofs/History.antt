@@ -1,4 +1,5 @@
 -- A history computed by the rules, and the arrays, the deeds and the reads that the definitions of runs make of it. Assumes nothing.
+use Rattle.std.specs.Prelude.{Ok, Err}
 use mathlib.Core.Path.{◌≡◌, refl, ap, ◌∙◌}
 use mathlib.Core.Bool.{true, false}
 use mathlib.Core.List.{List, [], ◌∷◌}
@@ -6,7 +7,6 @@ use lib.ListN.{replicate}
 use Rattle.tables.specs.Pool.{Pool}
 use Rattle.sound.specs.Sound.{lengths_ok, sound}
 use Rattle.pool.specs.Calls.{start, fresh_pool}
-use Rattle.outcome.specs.declared.answer.Answer.TheVariants.{Done, Refused}
 use Rattle.outcome.specs.declared.answer.Refusal.TheVariants.{OutOfRange, NoMemory, NoObject, NoRoom}
 use Rattle.births.proofs.Calls.{start_done}
 use Rattle.runs.specs.Runs.{Command, result_of, Event, event_of, history_of}
@@ -45,16 +45,16 @@ run =
 
 pub told : List Event
 told =
-    event_of (New 2) (result_of (Done 0) 0 [])
-    ∷ event_of (Also (Append 0 0 2)) (result_of (Done 0) 0 [])
-    ∷ event_of (Write [] 0 3 (1 ∷ 2 ∷ 3 ∷ [])) (result_of (Refused NoRoom) 0 [])
-    ∷ event_of (Write (replicate 8 6) 0 3 (1 ∷ 2 ∷ 3 ∷ [])) (result_of (Done 3) 3 [])
-    ∷ event_of (Child (replicate 4 6) 0 4 4) (result_of (Done 1) 0 [])
-    ∷ event_of (Write (replicate 8 6) 0 2 (7 ∷ 8 ∷ 9 ∷ [])) (result_of (Refused NoMemory) 2 [])
-    ∷ event_of (Also (Len 1)) (result_of (Done 4) 0 [])
-    ∷ event_of (Read 1 0 (5 ∷ 5 ∷ 5 ∷ [])) (result_of (Done 0) 0 (2 ∷ 3 ∷ 0 ∷ []))
-    ∷ event_of (Read 1 2 (5 ∷ 5 ∷ 5 ∷ [])) (result_of (Refused OutOfRange) 0 (5 ∷ 5 ∷ 5 ∷ []))
-    ∷ event_of (Read 2 0 (5 ∷ [])) (result_of (Refused NoObject) 0 (5 ∷ []))
+    event_of (New 2) (result_of (Ok 0) 0 [])
+    ∷ event_of (Also (Append 0 0 2)) (result_of (Ok 0) 0 [])
+    ∷ event_of (Write [] 0 3 (1 ∷ 2 ∷ 3 ∷ [])) (result_of (Err NoRoom) 0 [])
+    ∷ event_of (Write (replicate 8 6) 0 3 (1 ∷ 2 ∷ 3 ∷ [])) (result_of (Ok 3) 3 [])
+    ∷ event_of (Child (replicate 4 6) 0 4 4) (result_of (Ok 1) 0 [])
+    ∷ event_of (Write (replicate 8 6) 0 2 (7 ∷ 8 ∷ 9 ∷ [])) (result_of (Err NoMemory) 2 [])
+    ∷ event_of (Also (Len 1)) (result_of (Ok 4) 0 [])
+    ∷ event_of (Read 1 0 (5 ∷ 5 ∷ 5 ∷ [])) (result_of (Ok 0) 0 (2 ∷ 3 ∷ 0 ∷ []))
+    ∷ event_of (Read 1 2 (5 ∷ 5 ∷ 5 ∷ [])) (result_of (Err OutOfRange) 0 (5 ∷ 5 ∷ 5 ∷ []))
+    ∷ event_of (Read 2 0 (5 ∷ [])) (result_of (Err NoObject) 0 (5 ∷ []))
     ∷ []
 
 computed : quickly-goes 4 two run ≡ told
@@ -80,12 +80,12 @@ unfolding told deeds
 deeds_told = refl
 
 writes_told : deeds 0 told
-    ≡ Overwrites 3 (1 ∷ 2 ∷ 3 ∷ []) (Refused NoRoom) 0 ∷ Overwrites 3 (1 ∷ 2 ∷ 3 ∷ []) (Done 3) 3
-    ∷ Overwrites 2 (7 ∷ 8 ∷ 9 ∷ []) (Refused NoMemory) 2 ∷ []
+    ≡ Overwrites 3 (1 ∷ 2 ∷ 3 ∷ []) (Err NoRoom) 0 ∷ Overwrites 3 (1 ∷ 2 ∷ 3 ∷ []) (Ok 3) 3
+    ∷ Overwrites 2 (7 ∷ 8 ∷ 9 ∷ []) (Err NoMemory) 2 ∷ []
 unfolding told deeds
 writes_told = refl
 
-reads_told : reads_of 1 told ≡ result_of (Done 0) 0 (2 ∷ 3 ∷ 0 ∷ []) ∷ result_of (Refused OutOfRange) 0 [] ∷ []
+reads_told : reads_of 1 told ≡ result_of (Ok 0) 0 (2 ∷ 3 ∷ 0 ∷ []) ∷ result_of (Err OutOfRange) 0 [] ∷ []
 unfolding told reads_of
 reads_told = refl
 

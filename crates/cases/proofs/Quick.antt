@@ -1,4 +1,6 @@
 -- Runs on a sound pool, without its test at each call: calls keep the pool sound, and what is left computes. Assumes nothing.
+use Rattle.std.specs.Prelude.{Ok, Err}
+use Rattle.outcome.specs.Answers.{Answer}
 use mathlib.Core.Path.{◌≡◌, refl, ap, ◌∙◌}
 use mathlib.Core.Bool.{true, ◌&&◌}
 use mathlib.Core.List.{List, [], ◌∷◌}
@@ -22,10 +24,8 @@ use Rattle.lookup.specs.Level.{cleared, fresh_by, fresh_in, child_told, copy_by,
 use Rattle.lookup.specs.Lookup.{enter_by, look_in}
 use Rattle.lookup.specs.Commit.{commit_leaf}
 use Rattle.sound.specs.Sound.{sound}
-use Rattle.outcome.specs.declared.answer.Answer.{Answer}
 use Rattle.outcome.specs.declared.answer.Refusal.{Refusal}
 use Rattle.outcome.specs.declared.answer.Refusal.TheVariants.{InvalidArgs, NoObject}
-use Rattle.pool.specs.declared.entering.Entered.TheVariants.{At, Refused}
 use Rattle.pool.specs.Calls.{saying, leaf_at, new_leaf, new, entered, on_entered, on_object, len_of}
 use Rattle.child.specs.Child.{relinked, born_nodes, born, against_child, with_both, with_child, number_child, child_at}
 use Rattle.page.specs.Each.{onward, each}
@@ -45,7 +45,7 @@ use Rattle.cases.specs.Script.Line.{New as Newly, Child as Cloned, Write as Writ
 -- a call as its rule has it after the sound test; those that no case makes as they are
 abbrev at_object : {A : Type 0} → Pool → ℕ → (Refusal → A) → (ℕ → A) → A
 at_object p object refuse does =
-    on_entered refuse does (pick (ltb object 64 && leaf_of (node_of p.nodes object)) (At object) (Refused NoObject))
+    on_entered refuse does (pick (ltb object 64 && leaf_of (node_of p.nodes object)) (Ok object) (Err NoObject))
 
 unfoldable pub quick_aside : ℕ → Pool → Aside → Outcome Answer
 unfolding on_entered append_at shows_of append M.append_by free_place is_free_at free_number unused not_at with_mapping len_of node_of record_of word_of mapping_of number_of first_from all_below

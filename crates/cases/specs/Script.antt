@@ -1,11 +1,9 @@
 -- Lines of calls as in document 01's cowlines, and what they are answered, on a pool of pages of L bytes. No mapping is live in a case, so that no
 -- list for notices is lent.
-use Rattle.std.specs.Prelude.{◌≡◌, List, [], ◌∷◌, ℕ, ◌*◌, replicate}
+use Rattle.std.specs.Prelude.{◌≡◌, List, [], ◌∷◌, ℕ, ◌*◌, replicate, Ok, Err}
 use Rattle.tables.specs.Pool.{Pool}
 use Rattle.frames.specs.Frames.{free_count}
-use Rattle.outcome.specs.declared.answer.Answer.{Answer}
-use Rattle.outcome.specs.declared.answer.Answer.TheVariants.{Done, Refused}
-use Rattle.outcome.specs.Answers.{code_of, value_of}
+use Rattle.outcome.specs.Answers.{code_of, value_of, Answer}
 use Rattle.outcome.specs.Outcome.{Outcome}
 use Rattle.runs.specs.Runs.{Command, effect}
 use Rattle.runs.specs.Runs.Command.{New as Newly, Child as Cloned, Read as Reads, Write as Writes}
@@ -44,8 +42,8 @@ abbrev pub by_value : Outcome Answer → Step
 by_value t = step_of (says (code_of t.answer) (value_of t.answer t.done)) t.pool
 
 abbrev pub filling : Answer → List ℕ → Printed
-filling (Done v) buf = reads buf
-filling (Refused r) buf = says (code_of (Refused r)) 0
+filling (Ok v) buf = reads buf
+filling (Err r) buf = says (code_of (Err r)) 0
 
 abbrev pub by_bytes : Outcome Answer → Step
 by_bytes t = step_of (filling t.answer t.buf) t.pool

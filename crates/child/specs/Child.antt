@@ -1,17 +1,12 @@
 -- create_child, 324 and 761, on a pool of pages of L bytes, refused ones too. Offset and length are bytes; the tables count pages.
-use Rattle.std.specs.Prelude.{ℕ, ◌+◌, ◌-◌, ◌*◌, ◌/◌, ◌&&◌, List, [], eqb, leb, get_or, set}
+use Rattle.std.specs.Prelude.{ℕ, ◌+◌, ◌-◌, ◌*◌, ◌/◌, ◌&&◌, List, [], eqb, leb, get_or, set, Option, Some, None, Result, Ok, Err}
 use Rattle.logic.specs.Pick.{pick}
-use Rattle.logic.specs.declared.Found.{Found}
-use Rattle.logic.specs.declared.Found.TheVariants.{At, Nothing}
 use Rattle.blocks.specs.Blocks.{aligned_of}
 use Rattle.node.specs.declared.Node.{Node}
 use Rattle.node.specs.Node.{last_owner, cached_of, contains_of, snapshot_node, hidden_node, below_node, relinked_node}
-use Rattle.outcome.specs.declared.answer.Answer.{Answer}
-use Rattle.outcome.specs.declared.answer.Answer.TheVariants.{Done}
+use Rattle.outcome.specs.declared.answer.Refusal.{Refusal}
 use Rattle.outcome.specs.declared.answer.Refusal as R
-use Rattle.outcome.specs.declared.answer.Against.{Against}
-use Rattle.outcome.specs.declared.answer.Against.TheVariants.{Why, Nothing as Fine}
-use Rattle.outcome.specs.Answers.{unless}
+use Rattle.outcome.specs.Answers.{unless, Answer, Checked}
 use Rattle.outcome.specs.Told.{remove_write, told_of}
 use Rattle.outcome.specs.Room.{room_of}
 use Rattle.outcome.specs.Outcome.{Outcome, outcome_of, refused}
@@ -42,29 +37,29 @@ born_nodes N b owner =
 -- the child born: nodes, rows, the next owner number; RemoveWrite to the object's mappings over the child's range, 831
 unfoldable pub born : Pool → List ℕ → Birth → Outcome Answer
 born p list b =
-    outcome_of (Done b.child)
+    outcome_of (Ok b.child)
     (pool_of (born_nodes p.nodes b (get_or p.head 0 0)) (row_moved p.pages b.node b.hidden) p.used p.mappings
     (set p.head 0 (get_or p.head 0 0 + 1)) p.memory)
     (tell_object p.mappings (told_of list 0) 64 b.node b.first (b.first + b.pages) remove_write) 0 0 []
 
 -- INVALID_ARGS: unaligned, or more than 64 pages asked; BAD_STATE: not Cached, or pinned, 772; OUT_OF_RANGE
-unfoldable pub against_child : ℕ → Node → ℕ → ℕ → Against
+unfoldable pub against_child : ℕ → Node → ℕ → ℕ → Checked
 against_child L n offset len =
     pick (aligned_of L offset && aligned_of L len && leb len (64 * L))
     (pick (cached_of n && eqb n.pin_count 0)
-    (pick (contains_of L n offset len) Fine (Why R.TheVariants.OutOfRange))
-    (Why R.TheVariants.BadState))
-    (Why R.TheVariants.InvalidArgs)
+    (pick (contains_of L n offset len) (Ok tt) (Err R.TheVariants.OutOfRange))
+    (Err R.TheVariants.BadState))
+    (Err R.TheVariants.InvalidArgs)
 
 -- NO_NODE: fewer than two free nodes, the lowest for the child and the next for the hidden node, or no owner number left; NO_ROOM
-unfoldable pub with_both : Pool → List ℕ → ℕ → ℕ → ℕ → ℕ → Found → Outcome Answer
-with_both p list n first pages child (At hidden) =
+unfoldable pub with_both : Pool → List ℕ → ℕ → ℕ → ℕ → ℕ → Option ℕ → Outcome Answer
+with_both p list n first pages child (Some hidden) =
     pick (room_of p.mappings list 1) (born p list (birth_by n child hidden first pages)) (refused p list [] R.TheVariants.NoRoom)
-with_both p list n first pages child Nothing = refused p list [] R.TheVariants.NoNode
+with_both p list n first pages child None = refused p list [] R.TheVariants.NoNode
 
-unfoldable pub with_child : Pool → List ℕ → ℕ → ℕ → ℕ → Found → Outcome Answer
-with_child p list n first pages (At child) = with_both p list n first pages child (free_node_from p.nodes (child + 1))
-with_child p list n first pages Nothing = refused p list [] R.TheVariants.NoNode
+unfoldable pub with_child : Pool → List ℕ → ℕ → ℕ → ℕ → Option ℕ → Outcome Answer
+with_child p list n first pages (Some child) = with_both p list n first pages child (free_node_from p.nodes (child + 1))
+with_child p list n first pages None = refused p list [] R.TheVariants.NoNode
 
 unfoldable pub number_child : Pool → List ℕ → ℕ → ℕ → ℕ → Outcome Answer
 number_child p list n first pages =
@@ -76,3 +71,8 @@ child_at L p list n offset len =
 
 abbrev pub create_child : ℕ → Pool → List ℕ → ℕ → ℕ → ℕ → Outcome Answer
 create_child L p list object offset len = on_object L p object (refused p list []) (λ n. child_at L p list n offset len)
+
+-- where the tests find what a birth takes, the child is born
+abbrev pub born_of : Pool → List ℕ → Result Birth Refusal → Outcome Answer
+born_of p list (Ok b) = born p list b
+born_of p list (Err r) = refused p list [] r

@@ -7,9 +7,9 @@ ghost use Rattle.child.specs.Child.{relinked, born_nodes, born};
 
 use node::Node;
 use notices::Span;
-use outcome::{Answer, Reply};
+use outcome::{Notices, RangeChangeOp, Reply};
 
-// A child of an object's node, the hidden node above both, and the child's pages: so many from first on.
+// A child of an object's node, the hidden node above both, and the child's pages: so many from first on. Any numbers, as the rules speak of all.
 #[derive(Clone, Copy)]
 pub struct Birth {
     pub node: u32,
@@ -20,6 +20,7 @@ pub struct Birth {
 }
 
 // The parent's link to the old child becomes one to the new, where there is a parent.
+#[tactic(auto, using(std::proofs::lemmas::Bool::Decides::nat_tests), unfolding(crate::specs::Child::relinked))]
 fn relink(nodes: &mut [u32], parent: u32, old: u32, new: u32)
     requires { (old < 64) × (new < 64) }
     ensures { nodes.new ≡ relinked nodes.old parent old new }
@@ -32,6 +33,7 @@ fn relink(nodes: &mut [u32], parent: u32, old: u32, new: u32)
 }
 
 // The four records: the child, the hidden node, its parent and the object.
+#[tactic(auto, unfolding(crate::specs::Child::born_nodes))]
 fn write_records(nodes: &mut [u32], b: Birth, owner: u32)
     requires { (b.node < 64) × (b.child < 64) × (b.hidden < 64) }
     ensures { nodes.new ≡ born_nodes nodes.old b owner }
@@ -47,7 +49,8 @@ fn write_records(nodes: &mut [u32], b: Birth, owner: u32)
     tables::set_node(nodes, b.node, n.below(b.hidden));
 }
 
-// The records, the object's row to the hidden node, the next owner number, and RemoveWrite to the object's mappings.
+// The records, the object's row, the next owner number, and RemoveWrite to the object's mappings. Lent apart, as create_child is.
+#[tactic(auto, unfolding(crate::specs::Child::born))]
 pub fn bear(
     nodes: &mut [u32],
     pages: &mut [u32],
@@ -68,14 +71,12 @@ pub fn bear(
     let span = Span {
         lo: b.first as u64,
         hi: b.first as u64 + b.pages as u64,
-        op: outcome::REMOVE_WRITE,
+        op: u32::from(RangeChangeOp::RemoveWrite),
     };
-    let told = notices::tell_object(mappings, notices, 0, b.node, span);
-    let answer = Answer::Done(b.child as u64);
+    let mut told = Notices::new(notices);
+    notices::tell_object(mappings, &mut told, b.node, span);
     Reply {
-        answer,
-        done: 0,
-        taken: 0,
-        count: told,
+        count: told.count,
+        ..Reply::of(Ok(b.child as u64))
     }
 }

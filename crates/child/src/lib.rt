@@ -4,138 +4,90 @@
 
 mod birth;
 
-ghost use Rattle.std.specs.Prelude.{◌≡◌, List, [], ℕ, ◌≤◌, ◌<◌, get_or};
-ghost use Rattle.logic.specs.declared.Found.TheVariants.{At};
-ghost use Rattle.node.specs.Node.{last_owner};
+ghost use Rattle.std.specs.Prelude.{◌≡◌, [], ◌+◌, ◌≤◌, ◌<◌, get_or, Ok};
+ghost use Rattle.node.specs.Node.{byte_limit, last_owner};
 ghost use Rattle.outcome.specs.Outcome.{outcome};
 ghost use Rattle.tables.specs.Pool.{pool_of};
-ghost use Rattle.child.specs.Child.{against_child, with_child, number_child, child_at, create_child};
+ghost use Rattle.tables.specs.Lent.{pool_in};
+ghost use Rattle.child.specs.declared.birth.Birth.{Birth};
+ghost use Rattle.child.specs.Child.{against_child, born_of, number_child, create_child};
 
 use birth::Birth;
-use logic::Found;
 use node::Node;
-use outcome::{Against, Refusal, Reply};
-use pool::Entered;
+use outcome::{Refusal, Reply};
+use tables::View;
 
 // The largest length, in bytes.
-const MAX_LEN: u64 = Node::MAX_PAGES as u64 * 4096;
+const MAX_LEN: u64 = Node::MAX_PAGES as u64 * blocks::PAGE_SIZE;
 
 // The arguments' shape, the object's policy and pins, then the range.
-fn against_child(n: Node, offset: u64, len: u64) -> Against
-    ensures { result ≡ against_child 4096 n offset len }
+#[tactic(auto, using(std::proofs::lemmas::Bool::Decides::nat_tests), unfolding(crate::specs::Child::against_child))]
+fn against_child(n: Node, offset: u64, len: u64) -> Result<(), Refusal>
+    ensures value { result ≡ against_child 4096 n offset len }
+    ensures fits { result ≡ Ok tt → offset + len < byte_limit }
 {
-    if blocks::page_aligned(offset) & blocks::page_aligned(len) & (len <= MAX_LEN) {
-        if n.is_cached() & (n.pin_count == 0) {
-            if n.contains(offset, len) {
-                return Against::Nothing;
-            }
-            return Against::Why(Refusal::OutOfRange);
-        }
-        return Against::Why(Refusal::BadState);
+    if !blocks::page_aligned(offset) || !blocks::page_aligned(len) || len > MAX_LEN {
+        return Err(Refusal::InvalidArgs);
     }
-    Against::Why(Refusal::InvalidArgs)
+    if !n.is_cached() || n.pin_count != 0 {
+        return Err(Refusal::BadState);
+    }
+    if !n.contains(offset, len) {
+        return Err(Refusal::OutOfRange);
+    }
+    Ok(())
 }
 
-// The child has its number; the next free node is the hidden one.
-fn with_child(
-    nodes: &mut [u32],
-    pages: &mut [u32],
-    mappings: &[u32],
-    head: &mut [u32],
-    notices: &mut [u32],
-    node: u32,
-    child: u32,
-    first: u32,
-    count: u32,
-) -> Reply
-    requires { (node < 64) × (child < 64) × (get_or head.old 0 0 ≤ last_owner) }
-    ensures { (used memory : List ℕ) →
-        outcome result (pool_of nodes.new pages.new used mappings.now head.new memory) notices.new []
-        ≡ with_child (pool_of nodes.old pages.old used mappings.now head.old memory) notices.old node first count (At child) }
-{
-    let found = tables::free_node_from(nodes, child + 1);
-    match found {
-        Found::At(hidden) => {
-            if outcome::has_room(mappings, notices, 1) {
-                let b = Birth {
-                    node,
-                    child,
-                    hidden,
-                    first,
-                    pages: count,
-                };
-                return birth::bear(nodes, pages, mappings, head, notices, b);
-            }
-            return Reply::refused(Refusal::NoRoom);
-        }
-        Found::Nothing => return Reply::refused(Refusal::NoNode),
-    }
-}
-
-// An owner number, and the lowest free node for the child.
+// An owner number, the lowest free node for the child, and the next for the hidden one.
+#[tactic(auto, using(std::proofs::lemmas::Bool::Decides::nat_tests, logic::proofs::Laws::first_below), unfolding(crate::specs::Child::number_child, crate::specs::Child::with_child, crate::specs::Child::with_both, tables::specs::Tables::free_node_in, tables::specs::Tables::free_node_from))]
 fn number_child(
-    nodes: &mut [u32],
-    pages: &mut [u32],
-    mappings: &[u32],
-    head: &mut [u32],
-    notices: &mut [u32],
+    pool: View,
+    list: &[u32],
     node: u32,
     first: u32,
-    count: u32,
-) -> Reply
+    pages: u32,
+) -> Result<Birth, Refusal>
     requires { node < 64 }
-    ensures { (used memory : List ℕ) →
-        outcome result (pool_of nodes.new pages.new used mappings.now head.new memory) notices.new []
-        ≡ number_child (pool_of nodes.old pages.old used mappings.now head.old memory) notices.old node first count }
+    ensures value { born_of (pool_in pool.entry) list.now result ≡ number_child (pool_in pool.entry) list.now node first pages }
+    ensures small { (b : Birth) → result ≡ Ok b →
+        (b.node < 64) × (b.child < 64) × (b.hidden < 64) × (get_or pool.entry.head.now 0 0 ≤ last_owner) }
 {
-    if tables::at(head, 0) <= Node::LAST_OWNER {
-        let found = tables::free_node(nodes);
-        match found {
-            Found::At(child) => {
-                return with_child(
-                    nodes, pages, mappings, head, notices, node, child, first, count,
-                );
-            }
-            Found::Nothing => return Reply::refused(Refusal::NoNode),
-        }
+    if tables::at(pool.head, 0) > Node::LAST_OWNER {
+        return Err(Refusal::NoNode);
     }
-    Reply::refused(Refusal::NoNode)
+    let child = tables::free_node(pool.nodes).ok_or(Refusal::NoNode)?;
+    let hidden = tables::free_node_from(pool.nodes, child + 1).ok_or(Refusal::NoNode)?;
+    if !outcome::has_room(pool.mappings, list, 1) {
+        return Err(Refusal::NoRoom);
+    }
+    Ok(Birth {
+        node,
+        child,
+        hidden,
+        first,
+        pages,
+    })
 }
 
-fn child_at(
-    nodes: &mut [u32],
-    pages: &mut [u32],
-    mappings: &[u32],
-    head: &mut [u32],
-    notices: &mut [u32],
-    node: u32,
-    offset: u64,
-    len: u64,
-) -> Reply
-    requires { node < 64 }
-    ensures { (used memory : List ℕ) →
-        outcome result (pool_of nodes.new pages.new used mappings.now head.new memory) notices.new []
-        ≡ child_at 4096 (pool_of nodes.old pages.old used mappings.now head.old memory) notices.old node offset len }
+// All tests; nothing is written.
+#[tactic(auto, unfolding(crate::specs::Child::child_at, pool::specs::Calls::on_object, pool::specs::Calls::on_entered))]
+fn plan(pool: View, list: &[u32], object: u64, offset: u64, len: u64) -> Result<Birth, Refusal>
+    ensures value { born_of (pool_in pool.entry) list.now result ≡ create_child 4096 (pool_in pool.entry) list.now object offset len }
+    ensures small { (b : Birth) → result ≡ Ok b →
+        (b.node < 64) × (b.child < 64) × (b.hidden < 64) × (get_or pool.entry.head.now 0 0 ≤ last_owner) }
 {
-    let against = against_child(tables::node_at(nodes, node), offset, len);
-    match against {
-        Against::Why(why) => return Reply::refused(why),
-        Against::Nothing => {
-            return number_child(
-                nodes,
-                pages,
-                mappings,
-                head,
-                notices,
-                node,
-                (offset / 4096) as u32,
-                (len / 4096) as u32,
-            );
-        }
-    }
+    let node = pool::enter(pool, object)?;
+    against_child(tables::node_at(pool.nodes, node), offset, len)?;
+    number_child(
+        pool,
+        list,
+        node,
+        (offset / blocks::PAGE_SIZE) as u32,
+        (len / blocks::PAGE_SIZE) as u32,
+    )
 }
 
-// A child of len bytes from offset on; its object number.
+// A child of len bytes from offset on; its object number. The slices stay apart, since three of them are lent for writing.
 pub fn create_child(
     nodes: &mut [u32],
     pages: &mut [u32],
@@ -151,11 +103,17 @@ pub fn create_child(
     ensures { outcome result (pool_of nodes.new pages.new used.now mappings.now head.new memory.now) notices.new []
         ≡ create_child 4096 (pool_of nodes.old pages.old used.now mappings.now head.old memory.now) notices.old object offset len }
 {
-    let entered = pool::enter(nodes, pages, used, mappings, head, memory, object);
-    match entered {
-        Entered::At(node) => {
-            return child_at(nodes, pages, mappings, head, notices, node, offset, len);
-        }
-        Entered::Refused(why) => return Reply::refused(why),
+    let pool = View {
+        nodes,
+        pages,
+        used,
+        mappings,
+        head,
+        memory,
+    };
+    // A `match`, since both arms give a whole reply.
+    match plan(pool, notices, object, offset, len) {
+        Ok(b) => birth::bear(nodes, pages, mappings, head, notices, b),
+        Err(why) => Reply::refused(why),
     }
 }

@@ -2,110 +2,90 @@
 
 #![tactic(auto)]
 
-ghost use Rattle.std.specs.Prelude.{◌≡◌, List, [], ℕ, ◌≤◌};
-ghost use Rattle.outcome.specs.declared.answer.Against.TheVariants.{Nothing as Fine};
-ghost use Rattle.outcome.specs.Outcome.{outcome};
-ghost use Rattle.tables.specs.Pool.{pool_of};
-ghost use Rattle.commit.specs.Commit.{committed_answer, page_refusal, commit_page_at, commit_page};
+ghost use Rattle.std.specs.Prelude.{◌≡◌, [], ◌≤◌, Ok};
+ghost use Rattle.outcome.specs.Outcome.{outcome, reply_by};
+ghost use Rattle.lookup.specs.Lent.{SameStore, pool_with};
+ghost use Rattle.commit.specs.Commit.{committed_answer, page_refusal, commit_page};
 
-use lookup::{Ask, Committed};
-use outcome::{Against, Answer, Refusal, Reply};
-use pool::Entered;
+use lookup::{Ask, Committed, Store};
+use outcome::{Answer, Notices, Refusal, Reply};
+use tables::Tree;
+
+// What the shared zero frame is answered as.
+const ZERO_FRAME: u64 = 4294967295;
 
 fn committed_answer(committed: Committed) -> Answer
     ensures { result ≡ committed_answer committed }
 {
-    match committed {
-        Committed::Frame(f) => return Answer::Done(f as u64),
-        Committed::ZeroFrame => return Answer::Done(4294967295),
-        Committed::Refused(why) => return Answer::Refused(why),
+    match committed? {
+        Some(f) => Ok(f as u64),
+        None => Ok(ZERO_FRAME),
     }
 }
 
 // The page lies inside the size; for writing the list has room.
+#[tactic(auto, using(std::proofs::lemmas::Bool::Decides::nat_tests), unfolding(crate::specs::Commit::page_refusal))]
 fn page_refusal(
-    nodes: &[u32],
-    mappings: &[u32],
+    tree: Tree,
     notices: &[u32],
     node: u32,
     page: u64,
     write: bool,
-) -> Against
-    ensures value { result ≡ page_refusal nodes.now mappings.now notices.now node page write }
-    ensures fits { result ≡ Fine → page ≤ 4294967296 }
+) -> Result<(), Refusal>
+    ensures value { result ≡ page_refusal tree.entry.nodes.now tree.entry.mappings.now notices.now node page write }
+    ensures fits { result ≡ Ok tt → page ≤ 4294967296 }
 {
-    let n = tables::node_at(nodes, node);
+    let n = tables::node_at(tree.nodes, node);
     if n.size as u64 <= page {
-        return Against::Why(Refusal::OutOfRange);
+        return Err(Refusal::OutOfRange);
     }
-    if write {
-        if outcome::has_room(mappings, notices, 1) {
-            return Against::Nothing;
-        }
-        return Against::Why(Refusal::NoRoom);
+    if write && !outcome::has_room(tree.mappings, notices, 1) {
+        return Err(Refusal::NoRoom);
     }
-    Against::Nothing
+    Ok(())
 }
 
-// The lookup and its answer.
-fn commit_page_at(
-    nodes: &[u32],
-    pages: &mut [u32],
-    used: &mut [u8],
-    mappings: &[u32],
-    memory: &mut [u8],
+// Its tests, then the work; write's and commit's have other tests and other loans, so they share no generic one.
+#[tactic(auto, using(lookup::proofs::Asked::asked_low, lookup::proofs::Asked::asked_leaf), unfolding(crate::specs::Commit::commit_page_at, pool::specs::Calls::on_object, pool::specs::Calls::on_entered))]
+fn try_commit_page(
+    tree: Tree,
+    head: &[u32],
+    store: &mut Store,
     notices: &mut [u32],
-    node: u32,
+    object: u64,
     page: u64,
     write: bool,
-) -> Reply
-    ensures { (head : List ℕ) →
-        outcome result (pool_of nodes.now pages.new used.new mappings.now head memory.new) notices.new []
-        ≡ commit_page_at 4096 (pool_of nodes.now pages.old used.old mappings.now head memory.old) notices.old node page write }
+) -> Result<Reply, Refusal>
+    ensures same { SameStore store.old store.new }
+    ensures value { outcome (reply_by result) (pool_with tree.entry head.now store.new) notices.new []
+        ≡ commit_page 4096 (pool_with tree.entry head.now store.old) notices.old object page write }
 {
-    let against = page_refusal(nodes, mappings, notices, node, page, write);
-    match against {
-        Against::Why(why) => return Reply::refused(why),
-        Against::Nothing => {
-            let ask = Ask::of(node, page, write, 0);
-            let step = step_descent::commit_page(
-                nodes, pages, used, mappings, memory, notices, ask,
-            );
-            let committed = step.committed;
-            let answer = committed_answer(committed);
-            return Reply {
-                answer,
-                done: 0,
-                taken: 0,
-                count: step.count,
-            };
-        }
-    }
+    let node = pool::enter(store.view(tree, head), object)?;
+    page_refusal(tree, notices, node, page, write)?;
+    let mut told = Notices::new(notices);
+    let ask = Ask::of(node, page, write);
+    let committed = step_descent::commit_page(tree, store, &mut told, ask);
+    Ok(Reply {
+        answer: committed_answer(committed),
+        done: 0,
+        taken: 0,
+        count: told.count,
+    })
 }
 
 // The frame of an object's page, for reading or for writing.
 pub fn commit_page(
-    nodes: &[u32],
-    pages: &mut [u32],
-    used: &mut [u8],
-    mappings: &[u32],
+    tree: Tree,
     head: &[u32],
-    memory: &mut [u8],
+    store: &mut Store,
     notices: &mut [u32],
     object: u64,
     page: u64,
     write: bool,
 ) -> Reply
-    ensures { outcome result (pool_of nodes.now pages.new used.new mappings.now head.now memory.new) notices.new []
-        ≡ commit_page 4096 (pool_of nodes.now pages.old used.old mappings.now head.now memory.old) notices.old object page write }
+    ensures same { SameStore store.old store.new }
+    ensures value { outcome result (pool_with tree.entry head.now store.new) notices.new []
+        ≡ commit_page 4096 (pool_with tree.entry head.now store.old) notices.old object page write }
 {
-    let entered = pool::enter(nodes, pages, used, mappings, head, memory, object);
-    match entered {
-        Entered::At(node) => {
-            return commit_page_at(
-                nodes, pages, used, mappings, memory, notices, node, page, write,
-            );
-        }
-        Entered::Refused(why) => return Reply::refused(why),
-    }
+    Reply::of_work(try_commit_page(tree, head, store, notices, object, page, write))
 }

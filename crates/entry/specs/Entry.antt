@@ -1,11 +1,9 @@
 -- A page's state and its word in the lent table (paged.rs 102 to 152; the word is that of the written tree).
-use Rattle.std.specs.Prelude.{ℕ, ◌+◌, ◌-◌, ◌*◌, ◌/◌, ◌%◌, Bool, true, false, eqb}
+use Rattle.std.specs.Prelude.{ℕ, ◌+◌, ◌-◌, ◌*◌, ◌/◌, ◌%◌, Bool, true, false, eqb, Option, None, Some}
 use Rattle.logic.specs.Pick.{pick}
 use Rattle.entry.specs.declared.PageState.{PageState}
 use Rattle.entry.specs.declared.PageStateTag.{PageStateTag}
 use Rattle.entry.specs.declared.PageStateTag.TheVariants.{Owned, LeftSplit, RightSplit}
-use Rattle.entry.specs.declared.Slot.{Slot}
-use Rattle.entry.specs.declared.Slot.TheVariants.{Empty, Held}
 
 -- negate, 121: of Owned the source never asks
 abbrev pub negate_of : PageStateTag → PageStateTag
@@ -41,8 +39,8 @@ low_of e = e % 4096
 unfoldable pub state_of : ℕ → PageState
 state_of e = record { frame = low_of e - 1; tag = tag_of (e / 4096 % 4); pin_count = e / 16384 % 32 }
 
-unfoldable pub slot_of : ℕ → Slot
-slot_of e = pick (eqb (low_of e) 0) Empty (Held (state_of e))
+unfoldable pub slot_of : ℕ → Option PageState
+slot_of e = pick (eqb (low_of e) 0) None (Some (state_of e))
 
 unfoldable pub entry_word : PageState → ℕ
 entry_word s = s.frame % 4095 + 1 + 4096 * tag_number s.tag + 16384 * (s.pin_count % 32)

@@ -1,24 +1,22 @@
 -- The call forecast on a pool of pages of L bytes, refused ones too.
-use Rattle.std.specs.Prelude.{ℕ, ◌+◌, ◌/◌, List, [], leb}
+use Rattle.std.specs.Prelude.{ℕ, ◌+◌, ◌/◌, List, [], leb, Option, None, Some, Ok, Err}
+use Rattle.outcome.specs.Answers.{Answer}
+use Rattle.entry.specs.declared.PageState.{PageState}
 use Rattle.logic.specs.Pick.{pick}
 use Rattle.logic.specs.Below.{sum_below}
 use Rattle.node.specs.Node.{contains_of}
-use Rattle.entry.specs.declared.Slot.{Slot}
-use Rattle.entry.specs.declared.Slot.TheVariants.{Empty, Held}
 use Rattle.blocks.specs.declared.BlockIter.{BlockIter}
 use Rattle.blocks.specs.Blocks.{iter_of, count_of}
 use Rattle.tables.specs.Pool.{Pool}
 use Rattle.tables.specs.Tables.{node_of, slot_at}
 use Rattle.frames.specs.Frames.{free_count}
-use Rattle.outcome.specs.declared.answer.Answer.{Answer}
-use Rattle.outcome.specs.declared.answer.Answer.TheVariants.{Done, Refused}
 use Rattle.outcome.specs.declared.answer.Refusal.TheVariants.{OutOfRange}
 use Rattle.outcome.specs.Outcome.{Outcome, refused}
 use Rattle.pool.specs.Calls.{saying, on_object}
 
-abbrev pub one_absent : Slot → ℕ
-one_absent Empty = 1
-one_absent (Held s) = 0
+abbrev pub one_absent : Option PageState → ℕ
+one_absent None = 1
+one_absent (Some s) = 0
 
 -- the node holds no frame for the page
 unfoldable pub absent_at : List ℕ → ℕ → ℕ → ℕ
@@ -36,7 +34,7 @@ yes_of L pages used n range = pick (leb (absent_in pages n (range.begin / L) (co
 
 unfoldable pub forecast_answer : ℕ → List ℕ → List ℕ → List ℕ → ℕ → ℕ → ℕ → Answer
 forecast_answer L nodes pages used n offset len =
-    pick (contains_of L (node_of nodes n) offset len) (Done (yes_of L pages used n (iter_of offset (offset + len)))) (Refused OutOfRange)
+    pick (contains_of L (node_of nodes n) offset len) (Ok (yes_of L pages used n (iter_of offset (offset + len)))) (Err OutOfRange)
 
 abbrev pub forecast : ℕ → Pool → ℕ → ℕ → ℕ → Outcome Answer
 forecast L p object offset len =

@@ -1,69 +1,58 @@
--- Laws of the loops over flags. Assumes nothing.
+-- Laws of the flags that are frames', the first 1,024. Assumes nothing.
+use Rattle.std.specs.Prelude.{Option, None, Some, ◌≢◌}
+use Rattle.std.specs.List.{between, count_by, position, position_or_len}
+use Rattle.std.proofs.lemmas.List.{length-take, get_or-take, take_all}
+use Rattle.std.proofs.lemmas.List.Edits.{length-between, get_or-between}
+use Rattle.std.proofs.lemmas.List.Quantifiers.{position-Some}
+use Rattle.std.proofs.lemmas.List.Sums.{count_by_more_yes, count_by_more_no, fails_before_first}
 use mathlib.Core.Path.{◌≡◌, refl, sym, ◌∙◌}
-use mathlib.Core.Bool.{Bool, true, false, not}
+use mathlib.Core.Bool.{Bool, true, false, cond}
 use mathlib.Core.List.{List}
 use Prim.Native.Nat.{ℕ, zero, suc, ◌+◌, ◌-◌, ◌≤◌, ◌<◌}
 use native.Mathlib.Omega.{arith}
-use lib.Dec.{eqb}
-use lib.ListN.{length, get_or}
-use borrow.Author.Tests.{eq-eqb, ne_eqb, lt-ltb, le-ltb, not-true}
-use Rattle.logic.specs.Below.{all_below, sum_below, first_from}
-use Rattle.logic.specs.declared.Found.TheVariants.{Nothing}
-use Rattle.logic.proofs.Laws.{first_next, sum-next, and_left, and_right}
-use Rattle.frames.specs.Frames.{idle_of, one_idle, free_count}
+use native.Mathlib.Numerals.{add-one}
+use lib.Dec.{eqb, ltb}
+use lib.ListN.{length, get_or, take}
+use borrow.Author.Tests.{eqb-true, eqb-false, eq-eqb, ne_eqb, lt-ltb, le-ltb, ltb-false}
+use Rattle.logic.specs.Below.{sum_below}
+use Rattle.logic.proofs.Means.{less, split}
+use Rattle.logic.proofs.Ranges.{first_is}
+use Rattle.frames.specs.Frames.{idle_of, one_idle, free_count, free_frame_in}
+
+abbrev pub flags_of : List ℕ → List ℕ
+flags_of used = take 1024 used
 
 module _ (used : List ℕ) (f : ℕ) where
-  pub idle_zero : f < length used → get_or used f 0 ≡ 0 → idle_of used f ≡ true
+  idle : f < length (flags_of used) → get_or (flags_of used) f 0 ≡ 0 → idle_of used f ≡ true
   unfolding idle_of
-  idle_zero h e = simp (lt-ltb _ _ h, eq-eqb _ _ e)
+  idle h e =
+      let l = length-take 1024 used in
+      let n : f < length used = omega arith in
+      let k : f < 1024 = omega arith in
+      simp (lt-ltb _ _ n, eq-eqb _ _ (rw (get_or-take 1024 used f 0 k) at e))
 
-  pub idle_mark : f < length used → (get_or used f 0 ≡ 0 → ⊥) → idle_of used f ≡ false
+  busy : f < length (flags_of used) → get_or (flags_of used) f 0 ≢ 0 → idle_of used f ≡ false
   unfolding idle_of
-  idle_mark h n = simp (lt-ltb _ _ h, ne_eqb _ _ n)
+  busy h e =
+      let l = length-take 1024 used in
+      let n : f < length used = omega arith in
+      let k : f < 1024 = omega arith in
+      simp (lt-ltb _ _ n, ne_eqb _ _ (rw (get_or-take 1024 used f 0 k) at e))
 
-  pub idle_past : length used ≤ f → idle_of used f ≡ false
+  past : length (flags_of used) ≤ f → f < 1024 → idle_of used f ≡ false
   unfolding idle_of
-  idle_past h = simp (le-ltb _ _ h)
+  past h k = let l = length-take 1024 used in simp (le-ltb f (length used) (omega arith))
 
-  pub mark_busy : f < length used → not (eqb (get_or used f 0) 0) ≡ not (idle_of used f)
-  unfolding idle_of
-  mark_busy h = simp (lt-ltb _ _ h)
-
-  pub one_zero : f < length used → get_or used f 0 ≡ 0 → 1 ≡ one_idle used f
+  one_by : f < length (flags_of used) → (b : Bool) → eqb (get_or (flags_of used) f 0) 0 ≡ b → cond b 1 0 ≡ one_idle used f
   unfolding one_idle
-  one_zero h e = rw (idle_zero h e)
+  one_by h true t = rw (idle h (eqb-true _ _ t))
+  one_by h false t = rw (busy h (eqb-false _ _ t))
 
-  pub one-mark : f < length used → (get_or used f 0 ≡ 0 → ⊥) → 0 ≡ one_idle used f
+  one_past : length (flags_of used) ≤ f → f < 1024 → one_idle used f ≡ 0
   unfolding one_idle
-  one-mark h n = rw (idle_mark h n)
-
-  one_past : length used ≤ f → one_idle used f ≡ 0
-  unfolding one_idle
-  one_past h = rw (idle_past h)
-
--- a turn that counts nothing
-pub sum_kept : (f : ℕ → ℕ) (n : ℕ) {b : ℕ} → b ≡ sum_below f n → 0 ≡ f n → b ≡ sum_below f (n + 1)
-sum_kept f n {b} p q = let e : b + 0 ≡ b = omega arith in sym e ∙ sum-next f n p q
-
--- a search passes over n frames that are all in use
-pub skip : (used : List ℕ) (a n m : ℕ) → a + n ≤ m → all_below (λ k. not (idle_of used (a + k))) n ≡ true → first_from (idle_of used) a (m - a) ≡ first_from (idle_of used) (a + n) (m - (a + n))
-unfolding all_below
-skip used a zero m l h = let e : a + 0 ≡ a = omega arith in rw e
-skip used a (suc n) m l h =
-    let e : a + suc n ≡ a + n + 1 = omega arith in
-    let p = and_left _ (not (idle_of used (a + n))) h in
-    let q = not-true _ (and_right (all_below (λ k. not (idle_of used (a + k))) n) _ h) in
-    rw e (skip used a n m (omega arith) p ∙ first_next (idle_of used) (a + n) m (omega arith) q)
+  one_past h k = rw (past h k)
 
 -- past the end no frame is free
-
-none_from : (f : ℕ → Bool) (d i : ℕ) → ((k : ℕ) → i ≤ k → k < i + d → f k ≡ false) → first_from f i d ≡ Nothing
-unfolding first_from
-none_from f zero i h = refl
-none_from f (suc d) i h = rw (h i (omega arith) (omega arith)) (none_from f d (i + 1) (λ k p q. h k (omega arith) (omega arith)))
-
-pub none_past : (used : List ℕ) (i m : ℕ) → ((k : ℕ) → i ≤ k → k < m → length used ≤ k) → first_from (idle_of used) i (m - i) ≡ Nothing
-none_past used i m h = none_from (idle_of used) (m - i) i (λ k p q. idle_past used k (h k p (omega arith)))
 
 sum_from : (f : ℕ → ℕ) (n d : ℕ) → ((k : ℕ) → n ≤ k → k < n + d → f k ≡ 0) → sum_below f n ≡ sum_below f (n + d)
 unfolding sum_below
@@ -74,8 +63,71 @@ sum_from f n (suc d) h =
     let q = h (n + d) (omega arith) (omega arith) in
     rw e (omega (arith, p, q))
 
-pub count_past : (used : List ℕ) (n : ℕ) → n ≤ 1024 → ((k : ℕ) → n ≤ k → k < 1024 → length used ≤ k) → sum_below (one_idle used) n ≡ free_count used
+count_next : (used : List ℕ) (n : ℕ) → n < length (flags_of used) → (b : Bool) → eqb (get_or (flags_of used) n 0) 0 ≡ b → count_by (λ flag. eqb flag 0) (take (n + 1) (flags_of used)) ≡ count_by (λ flag. eqb flag 0) (take n (flags_of used)) + cond b 1 0
+count_next used n h true t = count_by_more_yes (λ flag. eqb flag 0) (flags_of used) n 0 h t
+count_next used n h false t = count_by_more_no (λ flag. eqb flag 0) (flags_of used) n 0 h t ∙ omega arith
+
+sum_count : (used : List ℕ) (n : ℕ) → n ≤ length (flags_of used) → sum_below (one_idle used) n ≡ count_by (λ flag. eqb flag 0) (take n (flags_of used))
+unfolding sum_below
+sum_count used zero h = refl
+sum_count used (suc n) h =
+    let b = eqb (get_or (flags_of used) n 0) 0 in
+    let e = count_next used n (omega arith) b refl in
+    let o = one_by used n (omega arith) b refl in
+    rw (sum_count used n (omega arith), ← o) (sym (rw add-one at e))
+
+pub count_all : (used : List ℕ) → count_by (λ flag. eqb flag 0) (flags_of used) ≡ free_count used
 unfolding free_count
-count_past used n l h =
+count_all used =
+    let l = length-take 1024 used in
+    let n = length (flags_of used) in
     let e : n + (1024 - n) ≡ 1024 = omega arith in
-    rw e at (sum_from (one_idle used) n (1024 - n) (λ k p q. one_past used k (h k p (omega arith))))
+    let s = sum_count used n (omega arith) in
+    sym (rw (take_all n (flags_of used) (omega arith)) at s) ∙ rw e at (sum_from (one_idle used) n (1024 - n) (λ k p q. one_past used k p (omega arith)))
+
+-- the first flag that is 0, from a place on before which none is
+
+none_at : (p : ℕ → Bool) (xs : List ℕ) (b : Bool) → ltb (position_or_len p xs) (length xs) ≡ b → cond b (Some (position_or_len p xs)) None ≡ None → (k : ℕ) → k < length xs → p (get_or xs k 0) ≡ false
+none_at p xs true t e k l = absurd cc
+none_at p xs false t e k l = let n = ltb-false (position_or_len p xs) (length xs) t in fails_before_first p xs k 0 (omega arith)
+
+module _ (used : List ℕ) (a : ℕ) (low : a ≤ length (flags_of used)) (before : (k : ℕ) → 0 ≤ k → k < a → get_or (flags_of used) k 0 ≢ 0) where
+  at_rest : (k : ℕ) → a + k < length (flags_of used) → get_or (between a (length (flags_of used)) (flags_of used)) k 0 ≡ get_or (flags_of used) (a + k) 0
+  at_rest k h = get_or-between (flags_of used) a (length (flags_of used)) k 0 h
+
+  -- what stands before place a + i, where what stands between isn't 0
+  taken : (i : ℕ) → a + i ≤ length (flags_of used) → ((k : ℕ) → k < i → eqb (get_or (between a (length (flags_of used)) (flags_of used)) k 0) 0 ≡ false) → (j : ℕ) → 0 ≤ j → j < a + i → idle_of used j ≡ false
+  taken i n h j l m =
+      split (less j a) (λ p. busy used j (omega arith) (before j l p))
+      (λ p. let e : a + (j - a) ≡ j = omega arith in
+      busy used j (omega arith) (rw (at_rest (j - a) (omega arith), e) at (eqb-false _ _ (h (j - a) (omega arith)))))
+
+  free_none : position (λ flag. eqb flag 0) (between a (length (flags_of used)) (flags_of used)) ≡ None → None ≡ free_frame_in used
+  unfolding free_frame_in
+  free_none e =
+      let s = between a (length (flags_of used)) (flags_of used) in
+      let n = length-between (flags_of used) a (length (flags_of used)) (omega arith) in
+      let h = none_at (λ flag. eqb flag 0) s (ltb (position_or_len (λ flag. eqb flag 0) s) (length s)) refl e in
+      let t = taken (length (flags_of used) - a) (omega arith) (λ k l. h k (omega arith)) in
+      first_is (idle_of used) 0 1024 None (λ j l m. split (less j (length (flags_of used))) (λ p. t j l (omega arith)) (λ p. past used j (omega arith) m))
+
+  free_some : (i : ℕ) → position (λ flag. eqb flag 0) (between a (length (flags_of used)) (flags_of used)) ≡ Some i → Some (a + i) ≡ free_frame_in used
+  unfolding free_frame_in
+  free_some i e =
+      let n = length-between (flags_of used) a (length (flags_of used)) (omega arith) in
+      let m = length-take 1024 used in
+      let (l, z, h) = position-Some (λ flag. eqb flag 0) (between a (length (flags_of used)) (flags_of used)) i 0 e in
+      let b : a + i < length (flags_of used) = omega arith in
+      first_is (idle_of used) 0 1024 (Some (a + i)) (omega arith, omega arith, idle used (a + i) b (rw (at_rest i b) at (eqb-true _ _ z)), taken i (omega arith) h)
+
+-- what `free_frame` answers, past two runs of frames in use
+
+module _ (used : List ℕ) {F : List ℕ} (b a : ℕ) {r : Option ℕ} (e : F ≡ flags_of used) (low : a ≤ length F) (wide : (k : ℕ) → 0 ≤ k → k < b → get_or F k 0 ≢ 0) (narrow : (k : ℕ) → b ≤ k → k < a → get_or F k 0 ≢ 0) (p : r ≡ position (λ flag. eqb flag 0) (between a (length F) F)) where
+  busy_before : (k : ℕ) → 0 ≤ k → k < a → get_or (flags_of used) k 0 ≢ 0
+  busy_before k l m = rw e at (split (less k b) (wide k l) (λ n. narrow k (omega arith) m))
+
+  pub answers_none : r ≡ None → None ≡ free_frame_in used
+  answers_none n = free_none used a (rw e at low) busy_before (rw e at (sym p ∙ n))
+
+  pub answers_some : (i : ℕ) → r ≡ Some i → Some (a + i) ≡ free_frame_in used
+  answers_some i s = free_some used a (rw e at low) busy_before i (rw e at (sym p ∙ s))

@@ -1,9 +1,7 @@
 -- Frames: flags of those in use, and the memory with a frame of L bytes cleared or copied.
-use Rattle.std.specs.Prelude.{ℕ, ◌+◌, ◌*◌, Bool, ◌&&◌, List, eqb, leb, ltb, length, get_or, set}
+use Rattle.std.specs.Prelude.{ℕ, ◌+◌, ◌*◌, Bool, ◌&&◌, List, eqb, leb, ltb, length, get_or, set, Option, Some, None}
 use Rattle.logic.specs.Pick.{pick}
 use Rattle.logic.specs.Below.{sum_below, first_from, copied, zeroed}
-use Rattle.logic.specs.declared.Found.{Found}
-use Rattle.logic.specs.declared.Found.TheVariants.{At, Nothing}
 
 unfoldable pub idle_of : List ℕ → ℕ → Bool
 idle_of used f = ltb f (length used) && eqb (get_or used f 0) 0
@@ -16,13 +14,13 @@ unfoldable pub free_count : List ℕ → ℕ
 free_count used = sum_below (one_idle used) 1024
 
 -- the lowest free frame: PhysFrame::new by document 01's rule
-unfoldable pub free_frame_in : List ℕ → Found
+unfoldable pub free_frame_in : List ℕ → Option ℕ
 free_frame_in used = first_from (idle_of used) 0 1024
 
 -- the flags with a frame taken, and given back
-abbrev pub taken_of : Found → List ℕ → List ℕ
-taken_of (At f) used = set used f 1
-taken_of Nothing used = used
+abbrev pub taken_of : Option ℕ → List ℕ → List ℕ
+taken_of (Some f) used = set used f 1
+taken_of None used = used
 
 abbrev pub given_of : ℕ → List ℕ → List ℕ
 given_of f used = set used f 0

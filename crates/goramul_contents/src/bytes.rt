@@ -1,10 +1,14 @@
-// Bytes and pages of an object: read, write, commit and peek.
+// Bytes and pages of an object: read, write, commit and peek; slices apart, as C lends them.
 ghost use Rattle.std.specs.Prelude.{◌≡◌, []};
 ghost use Rattle.tables.specs.Pool.{pool_of};
 ghost use Rattle.outcome.specs.Told.{told_of};
 ghost use Rattle.outcome.specs.Outcome.{outcome_of, numbers_of, in_numbers};
 ghost use Rattle.ranges.specs.Ranges.{read, write, commit};
 ghost use Rattle.peek.specs.Peek.{place, place_numbers};
+
+use lookup::Store;
+use outcome::Reply;
+use tables::{Tree, View};
 
 #[unsafe(no_mangle)]
 pub extern "C" fn goramul_read(
@@ -22,9 +26,13 @@ pub extern "C" fn goramul_read(
     ensures { outcome_of (numbers_of result value.new) (pool_of nodes.now pages.new used.new mappings.now head.now memory.new) (told_of [] 0) 0 0 buf.new
         ≡ in_numbers (read 4096 (pool_of nodes.now pages.old used.old mappings.now head.now memory.old) object from buf.old) }
 {
-    let filled = call_read::read(
-        nodes, pages, used, mappings, head, memory, object, from, buf,
-    );
+    let tree = Tree { nodes, mappings };
+    let mut store = Store {
+        pages,
+        used,
+        memory,
+    };
+    let filled = Reply::of(call_read::read(tree, head, &mut store, object, from, buf));
     *value = filled.value();
     filled.code()
 }
@@ -48,9 +56,13 @@ pub extern "C" fn goramul_write(
     ensures { outcome_of (numbers_of result value.new) (pool_of nodes.now pages.new used.new mappings.now head.now memory.new) (told_of notices.new count.new) 0 taken.new []
         ≡ in_numbers (write 4096 (pool_of nodes.now pages.old used.old mappings.now head.now memory.old) notices.old object offset bytes.now) }
 {
-    let wrote = call_write::write(
-        nodes, pages, used, mappings, head, memory, notices, object, offset, bytes,
-    );
+    let tree = Tree { nodes, mappings };
+    let mut store = Store {
+        pages,
+        used,
+        memory,
+    };
+    let wrote = call_write::write(tree, head, &mut store, notices, object, offset, bytes);
     *taken = wrote.taken as u64;
     *count = wrote.count as u64;
     *value = wrote.value();
@@ -76,9 +88,13 @@ pub extern "C" fn goramul_commit(
     ensures { outcome_of (numbers_of result value.new) (pool_of nodes.now pages.new used.new mappings.now head.now memory.new) (told_of notices.new count.new) 0 taken.new []
         ≡ in_numbers (commit 4096 (pool_of nodes.now pages.old used.old mappings.now head.now memory.old) notices.old object offset len) }
 {
-    let committed = call_commit::commit(
-        nodes, pages, used, mappings, head, memory, notices, object, offset, len,
-    );
+    let tree = Tree { nodes, mappings };
+    let mut store = Store {
+        pages,
+        used,
+        memory,
+    };
+    let committed = call_commit::commit(tree, head, &mut store, notices, object, offset, len);
     *taken = committed.taken as u64;
     *count = committed.count as u64;
     *value = committed.value();
@@ -102,9 +118,15 @@ pub extern "C" fn goramul_peek(
     ensures { numbers_of result value.new
         ≡ place_numbers (place 4096 (pool_of nodes.now pages.now used.now mappings.now head.now memory.now) zero.now object page) }
 {
-    let place = peek::find(
-        nodes, pages, used, mappings, head, memory, zero, object, page,
-    );
+    let pool = View {
+        nodes,
+        pages,
+        used,
+        mappings,
+        head,
+        memory,
+    };
+    let place = peek::find(pool, zero, object, page);
     *value = place.value();
     place.code()
 }

@@ -1,4 +1,4 @@
-// The export of create_child.
+// The export of create_child; slices apart, as C lends them.
 ghost use Rattle.std.specs.Prelude.{◌≡◌, []};
 ghost use Rattle.tables.specs.Pool.{pool_of};
 ghost use Rattle.outcome.specs.Told.{told_of};

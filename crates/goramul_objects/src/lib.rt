@@ -1,4 +1,4 @@
-// The calls on objects and mappings for C and Rust: each answers document 01's number and puts the value behind a reference.
+// The calls on objects and mappings for C and Rust: each answers document 01's number, the value behind a reference; slices apart, as C lends them.
 
 #![tactic(auto)]
 
@@ -13,6 +13,8 @@ ghost use Rattle.pool.specs.Calls.{start, new, len};
 ghost use Rattle.mapped.specs.Mapped.{append_mapping, remove_mapping};
 
 pub use children::goramul_create_child;
+use outcome::Reply;
+use tables::View;
 
 #[unsafe(no_mangle)]
 pub extern "C" fn goramul_start(
@@ -27,7 +29,7 @@ pub extern "C" fn goramul_start(
     ensures { outcome_of (numbers_of result value.new) (pool_of nodes.new pages.new used.new mappings.new head.new memory.now) (told_of [] 0) 0 0 []
         ≡ in_numbers (start 4096 (pool_of nodes.old pages.old used.old mappings.old head.old memory.now)) }
 {
-    let reply = pool::start(nodes, pages, used, mappings, head, memory);
+    let reply = Reply::of(pool::start(nodes, pages, used, mappings, head, memory));
     *value = reply.value();
     reply.code()
 }
@@ -46,7 +48,7 @@ pub extern "C" fn goramul_new(
     ensures { outcome_of (numbers_of result value.new) (pool_of nodes.new pages.now used.now mappings.now head.new memory.now) (told_of [] 0) 0 0 []
         ≡ in_numbers (new 4096 (pool_of nodes.old pages.now used.now mappings.now head.old memory.now) size) }
 {
-    let reply = pool::new(nodes, pages, used, mappings, head, memory, size);
+    let reply = Reply::of(pool::new(nodes, pages, used, mappings, head, memory, size));
     *value = reply.value();
     reply.code()
 }
@@ -65,7 +67,15 @@ pub extern "C" fn goramul_len(
     ensures { outcome_of (numbers_of result value.new) (pool_of nodes.now pages.now used.now mappings.now head.now memory.now) (told_of [] 0) 0 0 []
         ≡ in_numbers (len 4096 (pool_of nodes.now pages.now used.now mappings.now head.now memory.now) object) }
 {
-    let reply = pool::len(nodes, pages, used, mappings, head, memory, object);
+    let pool = View {
+        nodes,
+        pages,
+        used,
+        mappings,
+        head,
+        memory,
+    };
+    let reply = Reply::of(pool::len(pool, object));
     *value = reply.value();
     reply.code()
 }
@@ -86,9 +96,10 @@ pub extern "C" fn goramul_append_mapping(
     ensures { outcome_of (numbers_of result value.new) (pool_of nodes.now pages.now used.now mappings.new head.now memory.now) (told_of [] 0) 0 0 []
         ≡ in_numbers (append_mapping 4096 (pool_of nodes.now pages.now used.now mappings.old head.now memory.now) object first count) }
 {
-    let reply = mapped::append_mapping(
+    let number = mapped::append_mapping(
         nodes, pages, used, mappings, head, memory, object, first, count,
     );
+    let reply = Reply::of(number);
     *value = reply.value();
     reply.code()
 }
@@ -108,7 +119,8 @@ pub extern "C" fn goramul_remove_mapping(
     ensures { outcome_of (numbers_of result value.new) (pool_of nodes.now pages.now used.now mappings.new head.now memory.now) (told_of [] 0) 0 0 []
         ≡ in_numbers (remove_mapping 4096 (pool_of nodes.now pages.now used.now mappings.old head.now memory.now) object mapping) }
 {
-    let reply = mapped::remove_mapping(nodes, pages, used, mappings, head, memory, object, mapping);
+    let done = mapped::remove_mapping(nodes, pages, used, mappings, head, memory, object, mapping);
+    let reply = Reply::of(done);
     *value = reply.value();
     reply.code()
 }
@@ -125,5 +137,13 @@ pub extern "C" fn goramul_is_sound(
 ) -> bool
     ensures { result ≡ sound 4096 (pool_of nodes.now pages.now used.now mappings.now head.now memory.now) }
 {
-    sound::is_sound(nodes, pages, used, mappings, head, memory)
+    let pool = View {
+        nodes,
+        pages,
+        used,
+        mappings,
+        head,
+        memory,
+    };
+    sound::is_sound(pool)
 }

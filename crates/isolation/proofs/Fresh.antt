@@ -1,13 +1,11 @@
 -- The step that gives a cleared frame to a leaf's page that nothing reaches. Assumes nothing.
+use Rattle.std.specs.Prelude.{Option, ℕ, Some, None}
 use mathlib.Core.Path.{◌≡◌, refl, ◌∙◌, subst₂}
 use mathlib.Core.List.{List}
 use Prim.Native.Nat.{ℕ, ◌<◌}
 use native.Mathlib.Omega.{arith}
 use lib.ListN.{set, length-set}
-use Rattle.logic.specs.declared.Found.{Found}
-use Rattle.logic.specs.declared.Found.TheVariants.{At, Nothing}
 use Rattle.entry.specs.declared.PageState.{PageState}
-use Rattle.entry.specs.declared.Slot.TheVariants.{Empty, Held}
 use Rattle.entry.specs.Entry.{new_state}
 use Rattle.tables.specs.Tables.{node_of, slot_at}
 use Rattle.frames.specs.Frames.{free_frame_in, cleared_at}
@@ -29,8 +27,8 @@ use Rattle.lookups.proofs.Bytes.{cleared-length, cleared_same, cleared-other}
 use Rattle.lookups.proofs.Ok.{Ok}
 
 -- a cleared frame goes to an empty page that nothing reaches
-module _ (N : List ℕ) (G : Ground N) (L F : ℕ) (l p : ℕ) (leaf : Leaf N l) (size : p < (node_of N l).size) (s : Work) (o : Ok N L F s) (bare : slot_at s.pages l p ≡ Empty)
-    (view : View (links_of N) (slot_at s.pages) l p Nothing) (g : ℕ) (free : free_frame_in s.used ≡ At g) where
+module _ (N : List ℕ) (G : Ground N) (L F : ℕ) (l p : ℕ) (leaf : Leaf N l) (size : p < (node_of N l).size) (s : Work) (o : Ok N L F s) (bare : slot_at s.pages l p ≡ None)
+    (view : View (links_of N) (slot_at s.pages) l p None) (g : ℕ) (free : free_frame_in s.used ≡ Some g) where
   abbrev new : Work
   new = work_of s.pages (set s.used g 1) (cleared_at L s.memory g) s.told
 
@@ -40,10 +38,10 @@ module _ (N : List ℕ) (G : Ground N) (L F : ℕ) (l p : ℕ) (leaf : Leaf N l)
   in_g : g < F
   in_g = let k = idle.below in let u = o.used in omega arith
 
-  wrote : Wrote s.pages (kept new l p g).pages l p (Held (new_state g))
+  wrote : Wrote s.pages (kept new l p g).pages l p (Some (new_state g))
   wrote = kept_wrote N G L F new l p g o.pages size (let k = o.few in let m = in_g in omega arith)
 
-  away : (a b : ℕ) (e : PageState) → Holds s.pages a b e → Alike L s.memory new.memory (At e.frame) (At e.frame)
+  away : (a b : ℕ) (e : PageState) → Holds s.pages a b e → Alike L s.memory new.memory (Some e.frame) (Some e.frame)
   away a b e x k h = cleared-other L F s.memory o.memory g in_g e.frame k h (not_idle o.entries idle a b e x)
 
   aside : Aside (links_of N) (Alike L s.memory new.memory) (slot_at s.pages) (slot_at (kept new l p g).pages)
@@ -54,10 +52,10 @@ module _ (N : List ℕ) (G : Ground N) (L F : ℕ) (l p : ℕ) (leaf : Leaf N l)
         zeros = λ k h. refl;
       }
 
-  views_by : (n q : ℕ) (x : Found) → View (links_of N) (slot_at s.pages) n q x → Spot n q l p → Views (links_of N) (Alike L s.memory new.memory) (slot_at (kept new l p g).pages) n q x
+  views_by : (n q : ℕ) (x : Option ℕ) → View (links_of N) (slot_at s.pages) n q x → Spot n q l p → Views (links_of N) (Alike L s.memory new.memory) (slot_at (kept new l p g).pages) n q x
   views_by n q x d (there i j) =
-      let e : x ≡ Nothing = view_one (subst₂ (λ (a b : ℕ). View (links_of N) (slot_at s.pages) a b x) i j d) view in
-      (At g, own {s = new_state g} (rw (i, j) wrote.same) refl, rw e (cleared_same L F s.memory o.memory g in_g))
+      let e : x ≡ None = view_one (subst₂ (λ (a b : ℕ). View (links_of N) (slot_at s.pages) a b x) i j d) view in
+      (Some g, own {s = new_state g} (rw (i, j) wrote.same) refl, rw e (cleared_same L F s.memory o.memory g in_g))
   views_by n q x d (elsewhere ne) =
       views_aside (links_of N) (Alike L s.memory new.memory) (slot_at s.pages) (slot_at (kept new l p g).pages) aside n q x (others wrote n q ne) (away n q) d
 

@@ -1,20 +1,18 @@
 -- A leaf's own lookup: every leaf reads as before, and a frame given for writing is the leaf's own. Assumes nothing.
+use Rattle.std.specs.Prelude.{Option, ℕ, Some, None, Err, Ok as Gave}
 use mathlib.Core.Path.{◌≡◌, refl, sym, ◌∙◌, subst}
 use mathlib.Core.Bool.{Bool, false}
 use mathlib.Core.List.{List}
 use Prim.Native.Nat.{ℕ, ◌<◌}
 use native.Mathlib.Omega.{arith}
 use borrow.Author.Tests.{ne_eqb}
-use Rattle.logic.specs.declared.Found.{Found}
-use Rattle.logic.specs.declared.Found.TheVariants.{At, Nothing}
 use Rattle.entry.specs.declared.PageState.{PageState}
-use Rattle.entry.specs.declared.Slot.TheVariants.{Empty, Held}
 use Rattle.entry.specs.Entry.{new_state}
 use Rattle.node.specs.Node.{hidden_of}
 use Rattle.tables.specs.Tables.{node_of, slot_at}
-use Rattle.lookup.specs.declared.CommitResult.{CommitResult}
-use Rattle.lookup.specs.declared.CommitResult.TheVariants.{Ref, Zero, CopyOnWrite, NewPage, NoMemory, Stopped}
-use Rattle.lookup.specs.Work.{Work, Looking, looking_of}
+use Rattle.lookup.specs.Work.{Looked, Work, Looking, looking_of}
+use Rattle.lookup.specs.declared.CommitResult.TheVariants.{Ref, Zero, CopyOnWrite, NewPage}
+use Rattle.lookup.specs.declared.LookupError.TheVariants.{NoMemory, Stopped}
 use Rattle.lookup.specs.declared.End.{End}
 use Rattle.lookup.specs.declared.End.TheVariants.{Tired}
 use Rattle.lookup.specs.Mode.{today, place_of, up}
@@ -41,21 +39,21 @@ use Rattle.lookups.proofs.Frames.{free_idle}
 use Rattle.lookups.proofs.Bytes.{cleared_same}
 use Rattle.lookups.proofs.Ok.{Ok}
 
-module _ (N : List ℕ) (G : Ground N) (M : List ℕ) (L F : ℕ) (l p : ℕ) (leaf : Leaf N l) (size : p < (node_of N l).size) (s : Work) (x : Found) (w : Bool) (asker : ℕ) (o : Ok N L F s)
+module _ (N : List ℕ) (G : Ground N) (M : List ℕ) (L F : ℕ) (l p : ℕ) (leaf : Leaf N l) (size : p < (node_of N l).size) (s : Work) (x : Option ℕ) (w : Bool) (asker : ℕ) (o : Ok N L F s)
     (view : View (links_of N) (slot_at s.pages) l p x) where
   not_hidden : hidden_of (node_of N l) ≡ false
   not_hidden = ne_eqb (node_of N l).kind 3 (leaf_kind N G l leaf)
 
-  own_by : (e : PageState) → Holds s.pages l p e → View (links_of N) (slot_at s.pages) l p x → x ≡ At e.frame
+  own_by : (e : PageState) → Holds s.pages l p e → View (links_of N) (slot_at s.pages) l p x → x ≡ Some e.frame
   own_by e y (own {s = d} h b) = let i : d ≡ e = held_one (sym h ∙ y) in rw i at b
   own_by e y (above h d) = absurd (held_not y h)
 
-  above_by : slot_at s.pages l p ≡ Empty → View (links_of N) (slot_at s.pages) l p x → Near (links_of N) (slot_at s.pages) l p x
+  above_by : slot_at s.pages l p ≡ None → View (links_of N) (slot_at s.pages) l p x → Near (links_of N) (slot_at s.pages) l p x
   above_by y (own h b) = absurd (held_not h y)
   above_by y (above h d) = d
 
   -- the leaf has the page, of its own or as it was handed down
-  serves_served : (q : Work) (e : PageState) {u : Bool} {z : Looking} → Step N L F s q → Holds q.pages l p e → Alike L s.memory q.memory x (At e.frame) → e.frame < F
+  serves_served : (q : Work) (e : PageState) {u : Bool} {z : Looking} → Step N L F s q → Holds q.pages l p e → Alike L s.memory q.memory x (Some e.frame) → e.frame < F
       → ((a b : ℕ) → (a ≡ l → b ≡ p → ⊥) → (Over (links_of N) l p a b → ⊥) → slot_at q.pages a b ≡ slot_at s.pages a b) → (w ≡ false → q.used ≡ s.used)
       → Serves (today L N M) w (place_of l p asker) e u q z → Served N L F s l p x w z
   serves_served q e {u} t h b f only d (keeps n z) =
@@ -72,9 +70,9 @@ module _ (N : List ℕ) (G : Ground N) (M : List ℕ) (L F : ℕ) (l p : ℕ) (l
   serves_served q e t h b f only d (lends n k i j z) = true_not n not_hidden
 
   -- a cleared frame, which the leaf keeps
-  fresh_served : (g : ℕ) (q : Work) → slot_at s.pages l p ≡ Empty → Fresh L s x w g q → Served N L F s l p x w (looking_of (Ref g) (kept q l p g))
+  fresh_served : (g : ℕ) (q : Work) → slot_at s.pages l p ≡ None → Fresh L s x w g q → Served N L F s l p x w (looking_of (Gave (Ref g)) (kept q l p g))
   fresh_served g q bare d =
-      subst (λ (v : Work). Served N L F s l p x w (looking_of (Ref g) (kept v l p g))) (sym d.result)
+      subst (λ (v : Work). Served N L F s l p x w (looking_of (Gave (Ref g)) (kept v l p g))) (sym d.result)
       (record {
         step = fresh_step N G L F l p leaf size s o bare zero_view g d.free;
         only = λ a b ne out. others at_leaf a b ne;
@@ -86,35 +84,35 @@ module _ (N : List ℕ) (G : Ground N) (M : List ℕ) (L F : ℕ) (l p : ℕ) (l
         };
       })
     where
-      zero_view : View (links_of N) (slot_at s.pages) l p Nothing
+      zero_view : View (links_of N) (slot_at s.pages) l p None
       zero_view = rw d.nothing at view
 
       in_F : g < F
       in_F = let i = (free_idle s.used g d.free).below in let u = o.used in omega arith
 
-      at_leaf : Wrote s.pages (kept s l p g).pages l p (Held (new_state g))
+      at_leaf : Wrote s.pages (kept s l p g).pages l p (Some (new_state g))
       at_leaf = kept_wrote N G L F s l p g o.pages size (let k = o.few in let i = in_F in omega arith)
 
   -- an answer of the parent's that ends the lookup
-  final_served : (z : CommitResult) (q : Work) → Final (today L N M) w z → Post N L F s l p x w (looking_of z q) → Served N L F s l p x w (looking_of z q)
-  final_served (Ref f) q e d =
+  final_served : (z : Looked) (q : Work) → Final (today L N M) w z → Post N L F s l p x w (looking_of z q) → Served N L F s l p x w (looking_of z q)
+  final_served (Gave (Ref f)) q e d =
       let t = d.done in
       record { step = t.step; only = λ a b ne out. d.still a b out; says = record { bytes = t.bytes; frame = t.frame; own = λ k. true_not k t.reading; untaken = λ k. t.untaken } }
-  final_served Zero q e d =
+  final_served (Gave Zero) q e d =
       let t = d.done in
-      subst (λ (v : Work). Served N L F s l p x w (looking_of Zero v)) (sym t.same)
+      subst (λ (v : Work). Served N L F s l p x w (looking_of (Gave Zero) v)) (sym t.same)
       (record { step = step_same N G L F s s.told o; only = λ a b ne out. refl; says = record { reading = t.reading; nothing = t.nothing; same = refl } })
-  final_served NoMemory q e d = let t = d.done in record { step = t.step; only = λ a b ne out. d.still a b out; says = record { writing = t.writing; no_frame = t.no_frame } }
-  final_served Stopped q e d = absurd d.done
-  final_served (CopyOnWrite f u) q e d = absurd e
-  final_served (NewPage f) q e d = absurd e
+  final_served (Err NoMemory) q e d = let t = d.done in record { step = t.step; only = λ a b ne out. d.still a b out; says = record { writing = t.writing; no_frame = t.no_frame } }
+  final_served (Err Stopped) q e d = absurd d.done
+  final_served (Gave (CopyOnWrite f u)) q e d = absurd e
+  final_served (Gave (NewPage f)) q e d = absurd e
 
-  no_more : (links_of N).asks l p ≡ false → Near (links_of N) (slot_at s.pages) l p x → x ≡ Nothing
+  no_more : (links_of N).asks l p ≡ false → Near (links_of N) (slot_at s.pages) l p x → x ≡ None
   no_more z (none a e) = e
   no_more z (here a k t b) = true_not a z
   no_more z (higher a k d) = true_not a z
 
-  nothing_by : Alone (today L N M) s (place_of l p asker) → x ≡ Nothing
+  nothing_by : Alone (today L N M) s (place_of l p asker) → x ≡ None
   nothing_by b = no_more (sym (asks_same L N M l p asker) ∙ b.end) (above_by b.empty view)
 
   parent_post : {d : ℕ} {y : End} (z : Looking) → (y ≡ Tired → ⊥) → Asked (today L N M) s (place_of l p asker) → Looks (today L N M) w s d (up (today L N M) (place_of l p asker)) y z → Post N L F s l p x w z
@@ -135,9 +133,9 @@ module _ (N : List ℕ) (G : Ground N) (M : List ℕ) (L F : ℕ) (l p : ℕ) (l
   served z never (quits b e) = absurd (never refl)
   served z never (rests b k e) = final_served z.answer z.work e (parent_post z never b k)
   served z never (falls f v b k h e) = true_not h not_hidden
-  served z never (lands f v b k h e) = rw e (fresh_served f v b.empty (parent_post (looking_of (NewPage f) v) never b k).done)
+  served z never (lands f v b k h e) = rw e (fresh_served f v b.empty (parent_post (looking_of (Gave (NewPage f)) v) never b k).done)
   served z never (takes f u v b k t) =
-      let d = parent_post (looking_of (CopyOnWrite f u) v) never b k in
+      let d = parent_post (looking_of (Gave (CopyOnWrite f u)) v) never b k in
       let m = d.done in
       let wrote = kept_wrote N G L F v l p f m.pages size (let k = o.few in let i = m.frame in omega arith) in
       serves_served (kept v l p f) (new_state f) m.step wrote.same m.bytes m.frame (λ a b ne out. others wrote a b ne ∙ d.still a b out) m.untaken t

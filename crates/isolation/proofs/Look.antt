@@ -1,15 +1,15 @@
 -- Page lookup keeps every object's array, and answers what the array says. Assumes nothing.
+use Rattle.std.specs.Prelude.{Option, ℕ, Err, Ok as Gave}
 use mathlib.Core.Path.{◌≡◌, refl, sym, ap, ◌∙◌}
 use mathlib.Core.Bool.{Bool, true}
 use Prim.Native.Nat.{ℕ, ◌+◌, ◌<◌}
 use lib.ListN.{length, get_or}
-use Rattle.logic.specs.declared.Found.{Found}
 use Rattle.tables.specs.Pool.{Pool}
 use Rattle.tables.specs.Tables.{node_of}
 use Rattle.outcome.specs.Told.{Told}
-use Rattle.lookup.specs.declared.CommitResult.{CommitResult}
-use Rattle.lookup.specs.declared.CommitResult.TheVariants.{Ref, Zero, CopyOnWrite, NewPage, NoMemory, Stopped}
-use Rattle.lookup.specs.Work.{Work, looking_of}
+use Rattle.lookup.specs.Work.{Looked, Work, looking_of}
+use Rattle.lookup.specs.declared.CommitResult.TheVariants.{Ref, Zero, CopyOnWrite, NewPage}
+use Rattle.lookup.specs.declared.LookupError.TheVariants.{NoMemory, Stopped}
 use Rattle.lookup.specs.Mode.{today, place_of}
 use Rattle.lookup.specs.Lookup.{look_in}
 use Rattle.lookup.specs.Commit.{committed_by, commit_leaf}
@@ -68,9 +68,9 @@ module _ (L : ℕ) (A : ℕ → ℕ → ℕ → ℕ) (p : Pool) (P : Private L A
     shown : Shows L p l i (A l i)
     shown = P.shows l i leaf low
 
-    answered : (z : CommitResult) (w : Work) → Step p.nodes L (length p.used) (work_in p t) w → (write ≡ true → Pays (need p.nodes p.pages l i) (work_in p t) (looking_of z w))
+    answered : (z : Looked) (w : Work) → Step p.nodes L (length p.used) (work_in p t) w → (write ≡ true → Pays (need p.nodes p.pages l i) (work_in p t) (looking_of z w))
         → Says L (length p.used) (work_in p t) l i shown.source write z w → Answered L p t l i (A l i) write (committed_by z) w
-    answered (Ref f) w s c d =
+    answered (Gave (Ref f)) w s c d =
         record {
           bytes = λ k h. d.bytes k h ∙ shown.bytes k h;
           frame = rw s.ok.used d.frame;
@@ -78,13 +78,13 @@ module _ (L : ℕ) (A : ℕ → ℕ → ℕ → ℕ) (p : Pool) (P : Private L A
           taken = λ k. pays_gives (c k);
           untaken = d.untaken;
         }
-    answered Zero w s c d =
+    answered (Gave Zero) w s c d =
         let e = d.nothing in
-        record { reading = d.reading; bytes = λ k h. sym (shown.bytes k h) ∙ ap (λ (x : Found). byte_of L p.memory x k) e; same = d.same }
-    answered NoMemory w s c d = record { answer = refl; writing = d.writing; short = (pays_refuses (c d.writing)).0; no_frame = d.no_frame }
-    answered (CopyOnWrite f u) w s c d = absurd d
-    answered (NewPage g) w s c d = absurd d
-    answered Stopped w s c d = absurd d
+        record { reading = d.reading; bytes = λ k h. sym (shown.bytes k h) ∙ ap (λ (x : Option ℕ). byte_of L p.memory x k) e; same = d.same }
+    answered (Err NoMemory) w s c d = record { answer = refl; writing = d.writing; short = (pays_refuses (c d.writing)).0; no_frame = d.no_frame }
+    answered (Gave (CopyOnWrite f u)) w s c d = absurd d
+    answered (Gave (NewPage g)) w s c d = absurd d
+    answered (Err Stopped) w s c d = absurd d
 
     pub look_keeps : Kept L A p t l i write (commit_leaf L p.nodes p.mappings (work_in p t) l i write)
     unfolding commit_leaf

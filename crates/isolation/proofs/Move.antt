@@ -1,13 +1,12 @@
 -- Halfway down: the entry above a page is taken out, or copied into a free frame and split. Assumes nothing.
+use Rattle.std.specs.Prelude.{Some, None}
 use mathlib.Core.Path.{◌≡◌, refl, sym, ◌∙◌}
 use mathlib.Core.Bool.{true}
 use mathlib.Core.List.{List}
 use Prim.Native.Nat.{ℕ, ◌+◌, ◌<◌}
 use native.Mathlib.Omega.{arith}
 use lib.ListN.{set, length-set}
-use Rattle.logic.specs.declared.Found.TheVariants.{At}
 use Rattle.entry.specs.declared.PageState.{PageState}
-use Rattle.entry.specs.declared.Slot.TheVariants.{Empty, Held}
 use Rattle.entry.specs.Entry.{split_of, tagged_of}
 use Rattle.tables.specs.Tables.{node_of, with_state}
 use Rattle.frames.specs.Frames.{free_frame_in, copied_at}
@@ -60,7 +59,7 @@ module _ (N : List ℕ) (G : Ground N) (L F : ℕ) (c r : ℕ) (a₀ : (links_of
     goes g n p a i j ne u =
         split_side e.tag facts.sided (same_sided n p a i) ne (g (both_has n p a i j ne)) tag (rw i at u)
 
-    none_wrote : Wrote s.pages (without (with_told s t) h q).pages h q Empty
+    none_wrote : Wrote s.pages (without (with_told s t) h q).pages h q None
     none_wrote = wrote_none s.pages h q q_low h_low o.pages
 
     pub moved : ((links_of N).both c r ≡ true → split_of e.tag ≡ true) → Mid N L F s (without (with_told s t) h q) c r e.frame e
@@ -77,7 +76,7 @@ module _ (N : List ℕ) (G : Ground N) (L F : ℕ) (c r : ℕ) (a₀ : (links_of
         }
 
     -- the entry is copied into the free frame g and split
-    module _ (g : ℕ) (free : free_frame_in s.used ≡ At g) where
+    module _ (g : ℕ) (free : free_frame_in s.used ≡ Some g) where
       abbrev pub halved : Work
       halved = work_of (with_state s.pages h q (tagged_of e ((links_of N).side c))) (set s.used g 1) (copied_at L s.memory g e.frame) t
 
@@ -90,14 +89,14 @@ module _ (N : List ℕ) (G : Ground N) (L F : ℕ) (c r : ℕ) (a₀ : (links_of
       in_e : e.frame < F
       in_e = let l = o.entries.frames h q e over in let u = o.used in omega arith
 
-      tag_wrote : Wrote s.pages halved.pages h q (Held (tagged_of e ((links_of N).side c)))
+      tag_wrote : Wrote s.pages halved.pages h q (Some (tagged_of e ((links_of N).side c)))
       tag_wrote =
           let l = in_e in
           let m = o.few in
           let n = o.entries.pins h q e over in
           wrote_state s.pages h q q_low h_low o.pages (tagged_of e ((links_of N).side c)) (omega arith) (omega arith)
 
-      away : (a b : ℕ) (u : PageState) → Holds s.pages a b u → Alike L s.memory halved.memory (At u.frame) (At u.frame)
+      away : (a b : ℕ) (u : PageState) → Holds s.pages a b u → Alike L s.memory halved.memory (Some u.frame) (Some u.frame)
       away a b u x k l = copied-other L F s.memory o.memory g in_g e.frame in_e u.frame k l (not_idle o.entries idle a b u x)
 
       pub parted : Mid N L F s halved c r g e

@@ -1,21 +1,18 @@
 -- What a lookup of one page leaves of the needs of the object's other pages; and when it is granted. Assumes nothing.
+use Rattle.std.specs.Prelude.{Option, ℕ, None, Some, Ok, Err}
+use Rattle.entry.specs.declared.PageState.{PageState}
 use mathlib.Core.Path.{◌≡◌, refl, sym, ap, ◌∙◌}
 use mathlib.Core.Bool.{Bool, true, false}
 use mathlib.Core.List.{List, []}
 use Prim.Native.Nat.{ℕ, zero, suc, ◌+◌, ◌≤◌, ◌<◌}
 use native.Mathlib.Omega.{arith}
-use Rattle.logic.specs.declared.Found.{Found}
-use Rattle.entry.specs.declared.Slot.{Slot}
-use Rattle.entry.specs.declared.Slot.TheVariants.{Empty, Held}
 use Rattle.tables.specs.Pool.{Pool}
 use Rattle.tables.specs.Tables.{node_of, slot_at}
 use Rattle.frames.specs.Frames.{free_count}
 use Rattle.outcome.specs.Told.{Told}
 use Rattle.outcome.specs.declared.answer.Refusal.TheVariants.{NoMemory}
-use Rattle.lookup.specs.declared.Committed.{Committed}
-use Rattle.lookup.specs.declared.Committed.TheVariants.{Frame, ZeroFrame, Refused}
 use Rattle.lookup.specs.Work.{Work}
-use Rattle.lookup.specs.Commit.{Committing}
+use Rattle.lookup.specs.Commit.{Committing, Committed}
 use Rattle.sound.specs.Facts.{Leaf}
 use Rattle.isolation.specs.Walk.{Over, byte_of}
 use Rattle.isolation.specs.Walk.Over.{parent, higher}
@@ -36,10 +33,10 @@ module _ (N P P' : List ℕ) where
   abbrev m : Mode
   m = today 0 N []
 
-  walk_by_lem : (s : Slot) (a : Bool) (y y' : Way) → (a ≡ true → y' ≡ y) → walk_by s a (further y') ≡ walk_by s a (further y)
-  walk_by_lem (Held s) a y y' h = refl
-  walk_by_lem Empty true y y' h = ap further (h refl)
-  walk_by_lem Empty false y y' h = refl
+  walk_by_lem : (s : Option PageState) (a : Bool) (y y' : Way) → (a ≡ true → y' ≡ y) → walk_by s a (further y') ≡ walk_by s a (further y)
+  walk_by_lem (Some s) a y y' h = refl
+  walk_by_lem None true y y' h = ap further (h refl)
+  walk_by_lem None false y y' h = refl
 
   walk_agree : (k n i c : ℕ) → slot_at P' n i ≡ slot_at P n i → ((a b : ℕ) → Over (links_of N) n i a b → slot_at P' a b ≡ slot_at P a b) → walk m k P' (place_of n i c) ≡ walk m k P (place_of n i c)
   unfolding walk asks
@@ -70,20 +67,20 @@ module _ (L : ℕ) (A : ℕ → ℕ → ℕ → ℕ) (p : Pool) (P : Private L A
       (λ a b d. K.only a b (λ x y. let h = over_low p.nodes G d in let k = ap (height p.nodes G) x in omega arith) (λ c. ne (over_one p.nodes G d c)))
 
   -- a write is granted exactly if the page needs no more frames than are free
-  granted_by : (z : Committed) (w : Work) → Answered L p t l i (A l i) write z w → write ≡ true → need p.nodes p.pages l i ≤ free_count p.used → (f : ℕ) × (z ≡ Frame f)
-  granted_by (Frame f) w d k h = (f, refl)
-  granted_by ZeroFrame w d k h = true_not k d.reading
-  granted_by (Refused r) w d k h = let s = d.short in absurd (omega arith)
+  granted_by : (z : Committed) (w : Work) → Answered L p t l i (A l i) write z w → write ≡ true → need p.nodes p.pages l i ≤ free_count p.used → (f : ℕ) × (z ≡ Ok (Some f))
+  granted_by (Ok (Some f)) w d k h = (f, refl)
+  granted_by (Ok None) w d k h = true_not k d.reading
+  granted_by (Err r) w d k h = let s = d.short in absurd (omega arith)
 
-  pub granted : write ≡ true → need p.nodes p.pages l i ≤ free_count p.used → (f : ℕ) × (r.answer ≡ Frame f)
+  pub granted : write ≡ true → need p.nodes p.pages l i ≤ free_count p.used → (f : ℕ) × (r.answer ≡ Ok (Some f))
   granted = granted_by r.answer r.work K.answers
 
-  refused_by : (z : Committed) (w : Work) → Answered L p t l i (A l i) write z w → write ≡ true → free_count p.used < need p.nodes p.pages l i → z ≡ Refused NoMemory
-  refused_by (Frame f) w d k h = let s = d.taken k in absurd (omega arith)
-  refused_by ZeroFrame w d k h = true_not k d.reading
-  refused_by (Refused r) w d k h = ap Refused d.answer
+  refused_by : (z : Committed) (w : Work) → Answered L p t l i (A l i) write z w → write ≡ true → free_count p.used < need p.nodes p.pages l i → z ≡ Err NoMemory
+  refused_by (Ok (Some f)) w d k h = let s = d.taken k in absurd (omega arith)
+  refused_by (Ok None) w d k h = true_not k d.reading
+  refused_by (Err r) w d k h = ap Err d.answer
 
-  pub refused : write ≡ true → free_count p.used < need p.nodes p.pages l i → r.answer ≡ Refused NoMemory
+  pub refused : write ≡ true → free_count p.used < need p.nodes p.pages l i → r.answer ≡ Err NoMemory
   refused = refused_by r.answer r.work K.answers
 
 -- a pool has the arrays of one set only
@@ -91,4 +88,4 @@ pub array_one : (L : ℕ) (A B : ℕ → ℕ → ℕ → ℕ) (p : Pool) → Pri
 array_one L A B p P Q l i k leaf low h =
     let u = P.shows l i leaf low in
     let v = Q.shows l i leaf low in
-    sym (u.bytes k h) ∙ ap (λ (x : Found). byte_of L p.memory x k) (view_one u.view v.view) ∙ v.bytes k h
+    sym (u.bytes k h) ∙ ap (λ (x : Option ℕ). byte_of L p.memory x k) (view_one u.view v.view) ∙ v.bytes k h

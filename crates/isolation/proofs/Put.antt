@@ -1,4 +1,5 @@
 -- Bytes put into a frame that an object holds change that object's page alone. Assumes nothing.
+use Rattle.std.specs.Prelude.{Option, ℕ, Some}
 use mathlib.Core.Path.{◌≡◌, refl, sym, ap, ◌∙◌, subst₂}
 use mathlib.Core.Bool.{Bool, true, false, ◌&&◌}
 use mathlib.Core.List.{List}
@@ -8,8 +9,6 @@ use lib.Dec.{eqb, leb, ltb}
 use lib.ListN.{length, get_or}
 use borrow.Author.Tests.{eqb-true, eq-eqb, le-leb, lt-leb, lt-ltb, le-ltb}
 use Rattle.logic.specs.Pick.{pick}
-use Rattle.logic.specs.declared.Found.{Found}
-use Rattle.logic.specs.declared.Found.TheVariants.{At}
 use Rattle.logic.proofs.Means.{less, split}
 use Rattle.entry.specs.declared.PageState.{PageState}
 use Rattle.tables.specs.Pool.{Pool, pool_of}
@@ -93,8 +92,8 @@ module _ (L : ℕ) (A : ℕ → ℕ → ℕ → ℕ) (p : Pool) (P : Private L A
       by : View (links_of p.nodes) (slot_at p.pages) l i v.source → get_or p.memory (s.frame * L + k) 0 ≡ A l i k
       by (own {s = e} x y) =
           let d : e ≡ s = held_one (sym x ∙ holds) in
-          let z : v.source ≡ At s.frame = y ∙ ap (λ (u : PageState). At u.frame) d in
-          sym (ap (λ (f : Found). byte_of L p.memory f k) z) ∙ v.bytes k h
+          let z : v.source ≡ Some s.frame = y ∙ ap (λ (u : PageState). Some u.frame) d in
+          sym (ap (λ (f : Option ℕ). byte_of L p.memory f k) z) ∙ v.bytes k h
       by (above x y) = absurd (held_not holds x)
 
   aside : Aside (links_of p.nodes) (Alike L p.memory stored.memory) (slot_at p.pages) (slot_at p.pages)
@@ -112,7 +111,7 @@ module _ (L : ℕ) (A : ℕ → ℕ → ℕ → ℕ) (p : Pool) (P : Private L A
   shows_by : (m j : ℕ) → Shows L p m j (A m j) → Spot m j l i → Shows L stored m j (put A l i at n b from m j)
   shows_by m j v (there x y) =
       subst₂ (λ (c d : ℕ). Shows L stored c d (put A l i at n b from c d)) (sym x) (sym y)
-      (record { source = At s.frame; view = own holds refl; bytes = λ k h. frame_here k h (before (P.shows l i leaf low) k h) })
+      (record { source = Some s.frame; view = own holds refl; bytes = λ k h. frame_here k h (before (P.shows l i leaf low) k h) })
   shows_by m j v (elsewhere ne) =
       let u = views_aside (links_of p.nodes) (Alike L p.memory stored.memory) (slot_at p.pages) (slot_at p.pages) aside m j v.source refl
       (λ e x k h. frame_away e.frame k h (λ d. let y = P.sound.entries.once m j l i e s x holds d in ne y.0 y.1)) v.view in

@@ -1,14 +1,12 @@
 -- What a lookup changes, as one state; and the step that passes a frame from a parent's entry to its child's. Assumes nothing.
+use Rattle.std.specs.Prelude.{Option, ℕ, Some, None}
 use mathlib.Core.Path.{◌≡◌, refl, sym, ap, ◌∙◌}
 use mathlib.Core.Bool.{true}
 use mathlib.Core.List.{List}
 use Prim.Native.Nat.{ℕ, ◌+◌, ◌*◌, ◌<◌}
 use native.Mathlib.Omega.{arith}
 use lib.ListN.{length}
-use Rattle.logic.specs.declared.Found.{Found}
-use Rattle.logic.specs.declared.Found.TheVariants.{At}
 use Rattle.entry.specs.declared.PageState.{PageState}
-use Rattle.entry.specs.declared.Slot.TheVariants.{Empty, Held}
 use Rattle.entry.specs.Entry.{new_state}
 use Rattle.tables.specs.Tables.{node_of, slot_at}
 use Rattle.lookup.specs.Work.{Work}
@@ -26,13 +24,13 @@ use Rattle.lookups.proofs.Rows.{Loose, put_in}
 use Rattle.lookups.proofs.Sides.{side_owned}
 
 -- the same L bytes
-abbrev pub Alike : ℕ → List ℕ → List ℕ → Found → Found → Type 0
+abbrev pub Alike : ℕ → List ℕ → List ℕ → Option ℕ → Option ℕ → Type 0
 Alike L Y Y' x y = (k : ℕ) → k < L → byte_of L Y' y k ≡ byte_of L Y x k
 
 -- sound after it, and every leaf's page reads the same bytes
 pub record Step (N : List ℕ) (L F : ℕ) (s s' : Work) : Type 0 where
   pub ok : Ok N L F s'
-  pub views : (l p : ℕ) (x : Found) → Leaf N l → View (links_of N) (slot_at s.pages) l p x → Views (links_of N) (Alike L s.memory s'.memory) (slot_at s'.pages) l p x
+  pub views : (l p : ℕ) (x : Option ℕ) → Leaf N l → View (links_of N) (slot_at s.pages) l p x → Views (links_of N) (Alike L s.memory s'.memory) (slot_at s'.pages) l p x
 
 -- half way: the entry e above (c, r) was taken out or split, and frame f, in use and standing nowhere, is to stand at (c, r)
 pub record Mid (N : List ℕ) (L F : ℕ) (s s₁ : Work) (c r f : ℕ) (e : PageState) : Type 0 where
@@ -41,10 +39,10 @@ pub record Mid (N : List ℕ) (L F : ℕ) (s s₁ : Work) (c r f : ℕ) (e : Pag
   pub memory : length s₁.memory ≡ F * L
   pub loose : Loose N s₁.pages s₁.used f
   pub rest : (a b : ℕ) → (a ≡ (links_of N).par c → b ≡ (links_of N).start c + r → ⊥) → slot_at s₁.pages a b ≡ slot_at s.pages a b
-  pub same : Alike L s.memory s₁.memory (At e.frame) (At f)
-  pub keep : (a b : ℕ) (u : PageState) → Holds s.pages a b u → Alike L s.memory s₁.memory (At u.frame) (At u.frame)
+  pub same : Alike L s.memory s₁.memory (Some e.frame) (Some f)
+  pub keep : (a b : ℕ) (u : PageState) → Holds s.pages a b u → Alike L s.memory s₁.memory (Some u.frame) (Some u.frame)
   pub sib : (n p : ℕ) → (links_of N).asks n p ≡ true → (links_of N).par n ≡ (links_of N).par c → (links_of N).start n + p ≡ (links_of N).start c + r → (n ≡ c → ⊥) → (e.tag ≡ (links_of N).side n → ⊥)
-      → (u : PageState) × Holds s₁.pages ((links_of N).par c) ((links_of N).start c + r) u × (u.tag ≡ (links_of N).side n → ⊥) × Alike L s.memory s₁.memory (At e.frame) (At u.frame)
+      → (u : PageState) × Holds s₁.pages ((links_of N).par c) ((links_of N).start c + r) u × (u.tag ≡ (links_of N).side n → ⊥) × Alike L s.memory s₁.memory (Some e.frame) (Some u.frame)
 
 module _ (N : List ℕ) (G : Ground N) (L F : ℕ) where
   pub climbs : Climbs (links_of N) (Leaf N) (λ n p. Unit {0})
@@ -74,17 +72,17 @@ module _ (N : List ℕ) (G : Ground N) (L F : ℕ) where
       }
 
   -- frame f kept at (c, r)
-  pub kept_wrote : (s : Work) (c r f : ℕ) → length s.pages ≡ 4096 → r < (node_of N c).size → f < 1024 → Wrote s.pages (kept s c r f).pages c r (Held (new_state f))
+  pub kept_wrote : (s : Work) (c r f : ℕ) → length s.pages ≡ 4096 → r < (node_of N c).size → f < 1024 → Wrote s.pages (kept s c r f).pages c r (Some (new_state f))
   kept_wrote s c r f len l m = wrote_state s.pages c r (page_low N G.base c r l) (node_low N G.base c r l) len (new_state f) (omega arith) (omega arith)
 
   pub not_par : (c r : ℕ) → (links_of N).asks c r ≡ true → (links_of N).par c ≡ c → ⊥
   not_par c r a e = let h = lower N G c r a in let j = ap (height N G) e in omega arith
 
-  module _ (s s₁ : Work) (c r f : ℕ) (e : PageState) (o : Ok N L F s) (a : (links_of N).asks c r ≡ true) (over : Holds s.pages ((links_of N).par c) ((links_of N).start c + r) e) (bare : slot_at s.pages c r ≡ Empty) (m : Mid N L F s s₁ c r f e) where
+  module _ (s s₁ : Work) (c r f : ℕ) (e : PageState) (o : Ok N L F s) (a : (links_of N).asks c r ≡ true) (over : Holds s.pages ((links_of N).par c) ((links_of N).start c + r) e) (bare : slot_at s.pages c r ≡ None) (m : Mid N L F s s₁ c r f e) where
     pub low_frame : f < 1024
     low_frame = let h = o.few in let k = m.loose.frame in let u = m.used in omega arith
 
-    wrote : Wrote s₁.pages (kept s₁ c r f).pages c r (Held (new_state f))
+    wrote : Wrote s₁.pages (kept s₁ c r f).pages c r (Some (new_state f))
     wrote = kept_wrote s₁ c r f m.pages (asked N G c r a).size low_frame
 
     pass : Pass (links_of N) (λ n p. Unit {0}) (Alike L s.memory s₁.memory) (slot_at s.pages) (slot_at (kept s₁ c r f).pages) c r e (new_state f)

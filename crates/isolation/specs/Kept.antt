@@ -1,16 +1,13 @@
 -- What page lookup keeps and answers, on a pool whose objects are private arrays.
-use Rattle.std.specs.Prelude.{◌≡◌, Bool, true, false, ℕ, ◌+◌, ◌*◌, ◌<◌, length, get_or}
-use Rattle.logic.specs.declared.Found.TheVariants.{Nothing}
+use Rattle.std.specs.Prelude.{◌≡◌, Bool, true, false, ℕ, ◌+◌, ◌*◌, ◌<◌, length, get_or, None, Ok, Some, Err}
 use Rattle.entry.specs.declared.PageState.{PageState}
 use Rattle.tables.specs.Pool.{Pool, pool_of}
 use Rattle.tables.specs.Tables.{slot_at}
 use Rattle.frames.specs.Frames.{free_count, free_frame_in}
 use Rattle.outcome.specs.declared.answer.Refusal.{Refusal}
 use Rattle.outcome.specs.declared.answer.Refusal.TheVariants.{NoMemory}
-use Rattle.lookup.specs.declared.Committed.{Committed}
-use Rattle.lookup.specs.declared.Committed.TheVariants.{Frame, ZeroFrame, Refused}
 use Rattle.lookup.specs.Work.{Work, work_of}
-use Rattle.lookup.specs.Commit.{Committing}
+use Rattle.lookup.specs.Commit.{Committing, Committed}
 use Rattle.outcome.specs.Told.{Told}
 use Rattle.sound.specs.Facts.{Holds}
 use Rattle.isolation.specs.Walk.{Over}
@@ -43,12 +40,12 @@ pub record Scarce (p : Pool) (l i : ℕ) (write : Bool) (why : Refusal) (w : Wor
   pub answer : why ≡ NoMemory
   pub writing : write ≡ true
   pub short : free_count p.used < need p.nodes p.pages l i
-  pub no_frame : free_frame_in w.used ≡ Nothing
+  pub no_frame : free_frame_in w.used ≡ None
 
 abbrev pub Answered : ℕ → Pool → Told → ℕ → ℕ → (ℕ → ℕ) → Bool → Committed → Work → Type 0
-Answered L p t l i a write (Frame f) w = Gives L p l i a write f w
-Answered L p t l i a write ZeroFrame w = Zeros L p t a write w
-Answered L p t l i a write (Refused r) w = Scarce p l i write r w
+Answered L p t l i a write (Ok (Some f)) w = Gives L p l i a write f w
+Answered L p t l i a write (Ok None) w = Zeros L p t a write w
+Answered L p t l i a write (Err r) w = Scarce p l i write r w
 
 -- entries change at the page itself and at pages above it alone
 pub record Kept (L : ℕ) (A : ℕ → ℕ → ℕ → ℕ) (p : Pool) (t : Told) (l i : ℕ) (write : Bool) (r : Committing) : Type 0 where

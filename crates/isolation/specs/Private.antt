@@ -1,8 +1,7 @@
 -- The invariant of isolation: a sound pool in which every object's page reads an array of the object's own, for pages of L bytes (any L; with 0
 -- nothing is said of bytes).
-use Rattle.std.specs.Prelude.{◌≡◌, ◌&&◌, not, List, ℕ, ◌+◌, ◌-◌, ◌≤◌, ◌<◌, eqb, leb, ltb, get_or}
+use Rattle.std.specs.Prelude.{◌≡◌, ◌&&◌, not, List, ℕ, ◌+◌, ◌-◌, ◌≤◌, ◌<◌, eqb, leb, ltb, get_or, Option}
 use Rattle.logic.specs.Pick.{pick}
-use Rattle.logic.specs.declared.Found.{Found}
 use Rattle.node.specs.Node.{window_of, out_of, side_of}
 use Rattle.tables.specs.Pool.{Pool}
 use Rattle.tables.specs.Tables.{node_of, slot_at}
@@ -29,7 +28,7 @@ pub record Windows (N : List ℕ) : Type 0 where
 
 -- page i of object l reads as the bytes a 0, a 1, ..
 pub record Shows (L : ℕ) (p : Pool) (l i : ℕ) (a : ℕ → ℕ) : Type 0 where
-  pub source : Found
+  pub source : Option ℕ
   pub view : View (links_of p.nodes) (slot_at p.pages) l i source
   pub bytes : (k : ℕ) → k < L → byte_of L p.memory source k ≡ a k
 

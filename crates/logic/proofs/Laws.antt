@@ -1,4 +1,5 @@
 -- Laws of the definitions of this crate. Assumes nothing.
+use Rattle.std.specs.Prelude.{Some, None}
 use mathlib.Core.Path.{◌≡◌, refl, sym, ◌∙◌}
 use mathlib.Core.Bool.{Bool, true, false, ◌&&◌}
 use mathlib.Core.List.{List}
@@ -7,11 +8,10 @@ use native.Mathlib.Omega.{arith}
 use native.Mathlib.Numerals.{add-one}
 use lib.Dec.{eqb}
 use borrow.Author.Tests.{eqb-true, eqb-false}
-use lib.ListN.{length, get_or, length-set}
+use lib.ListN.{length, get_or, set, length-set}
 use lib.Seq.{get_or-set_other}
 use Rattle.logic.specs.Pick.{pick}
-use Rattle.logic.specs.Below.{all_below, sum_below, first_from, copied, zeroed}
-use Rattle.logic.specs.declared.Found.TheVariants.{At, Nothing}
+use Rattle.logic.specs.Below.{all_below, first_from, copied, zeroed}
 
 -- both of two tests, and each
 
@@ -65,13 +65,9 @@ pub all_next : (f : ℕ → Bool) (n : ℕ) {b t : Bool} → b ≡ all_below f n
 unfolding all_below
 all_next f n p q = rw (add-one, p, q)
 
-pub sum-next : (f : ℕ → ℕ) (n : ℕ) {b t : ℕ} → b ≡ sum_below f n → t ≡ f n → b + t ≡ sum_below f (n + 1)
-unfolding sum_below
-sum-next f n p q = rw (add-one, p, q)
-
 -- turns of a search among the numbers below m
 
-pub first_found : (f : ℕ → Bool) (i m : ℕ) → i < m → f i ≡ true → first_from f i (m - i) ≡ At i
+pub first_found : (f : ℕ → Bool) (i m : ℕ) → i < m → f i ≡ true → first_from f i (m - i) ≡ Some i
 unfolding first_from
 first_found f i m l h = let e : m - i ≡ suc (m - (i + 1)) = omega arith in rw (e, h)
 
@@ -79,17 +75,17 @@ pub first_next : (f : ℕ → Bool) (i m : ℕ) → i < m → f i ≡ false → 
 unfolding first_from
 first_next f i m l h = let e : m - i ≡ suc (m - (i + 1)) = omega arith in rw (e, h)
 
-pub first-none : (f : ℕ → Bool) (i m : ℕ) → m ≤ i → first_from f i (m - i) ≡ Nothing
+pub first-none : (f : ℕ → Bool) (i m : ℕ) → m ≤ i → first_from f i (m - i) ≡ None
 unfolding first_from
 first-none f i m l = let e : m - i ≡ 0 = omega arith in rw e
 
 -- what is found lies in the range
 
-found_by : (f : ℕ → Bool) (k n i : ℕ) (b : Bool) → ((k i : ℕ) → first_from f k n ≡ At i → i < k + n) → pick b (At k) (first_from f (k + 1) n) ≡ At i → i < k + suc n
+found_by : (f : ℕ → Bool) (k n i : ℕ) (b : Bool) → ((k i : ℕ) → first_from f k n ≡ Some i → i < k + n) → pick b (Some k) (first_from f (k + 1) n) ≡ Some i → i < k + suc n
 found_by f k n i true ih e = let h : k ≡ i = cc in omega arith
 found_by f k n i false ih e = let h = ih (k + 1) i e in omega arith
 
-pub first_below : (f : ℕ → Bool) (k n i : ℕ) → first_from f k n ≡ At i → i < k + n
+pub first_below : (f : ℕ → Bool) (k n i : ℕ) → first_from f k n ≡ Some i → i < k + n
 unfolding first_from
 first_below f k zero i e = let z : ◌≡◌ {A = ℕ} 0 1 = cc in absurd (omega arith)
 first_below f k (suc n) i e = found_by f k n i (f k) (λ k i h. first_below f k n i h) e
@@ -112,6 +108,11 @@ pub copied_outside : (d : List ℕ) (a : ℕ) (s : List ℕ) (b n i : ℕ) → (
 unfolding copied
 copied_outside d a s b zero i h = refl
 copied_outside d a s b (suc n) i h = get_or-set_other (copied d a s b n) (a + n) i (get_or s (b + n) 0) 0 (h n (omega arith)) ∙ copied_outside d a s b n i (λ k l. h k (omega arith))
+
+-- a turn of a loop that copies inside one list, where what is read next was not written so far
+pub copy_next : (m : List ℕ) (a b k : ℕ) {t : List ℕ} → ((j : ℕ) → j < k → b + k ≡ a + j → ⊥) → t ≡ copied m a m b k → set t (a + k) (get_or t (b + k) 0) ≡ copied m a m b (k + 1)
+unfolding copied
+copy_next m a b k apart e = rw (add-one, e, copied_outside m a m b k (b + k) apart)
 
 -- a run that changes no more from k on is the same at k and at n
 

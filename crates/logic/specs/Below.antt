@@ -1,8 +1,6 @@
 -- What holds, adds up or is first among the numbers below n; and the part of a list that is written from another.
-use Rattle.std.specs.Prelude.{ℕ, zero, suc, ◌+◌, Bool, true, ◌&&◌, List, get_or, set}
+use Rattle.std.specs.Prelude.{ℕ, zero, suc, ◌+◌, Bool, true, ◌&&◌, List, get_or, set, Option, Some, None}
 use Rattle.logic.specs.Pick.{pick}
-use Rattle.logic.specs.declared.Found.{Found}
-use Rattle.logic.specs.declared.Found.TheVariants.{At, Nothing}
 
 -- f holds of each number below n
 unfoldable pub all_below : (ℕ → Bool) → ℕ → Bool
@@ -15,9 +13,9 @@ sum_below f zero = 0
 sum_below f (suc n) = sum_below f n + f n
 
 -- the first of the n numbers from k on of which f holds
-unfoldable pub first_from : (ℕ → Bool) → ℕ → ℕ → Found
-first_from f k zero = Nothing
-first_from f k (suc n) = pick (f k) (At k) (first_from f (k + 1) n)
+unfoldable pub first_from : (ℕ → Bool) → ℕ → ℕ → Option ℕ
+first_from f k zero = None
+first_from f k (suc n) = pick (f k) (Some k) (first_from f (k + 1) n)
 
 -- n elements of s, from b on, put into d from a on
 unfoldable pub copied : List ℕ → ℕ → List ℕ → ℕ → ℕ → List ℕ

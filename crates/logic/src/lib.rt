@@ -1,9 +1,3 @@
-// What a search finds. The rest of this crate is definitions and laws.
+// This crate is definitions and laws. There is no code here.
 
 #![tactic(auto)]
-
-#[derive(Clone, Copy)]
-pub enum Found {
-    At(u32),
-    Nothing,
-}

@@ -1,11 +1,10 @@
 -- The descent, level by level; and a cleared frame that goes straight to the object. Assumes nothing.
+use Rattle.std.specs.Prelude.{Option, ℕ, Some, None, Err, Ok}
 use mathlib.Core.Path.{◌≡◌, refl, sym, ap, ◌∙◌}
 use mathlib.Core.Bool.{Bool, true, false, ◌&&◌, not}
 use mathlib.Core.List.{List}
-use Prim.Native.Nat.{ℕ, zero, suc, ◌-◌, ◌<◌}
+use Prim.Native.Nat.{ℕ, zero, suc, ◌<◌}
 use native.Mathlib.Omega.{arith}
-use Rattle.logic.specs.declared.Found.{Found}
-use Rattle.logic.specs.declared.Found.TheVariants.{At, Nothing}
 use Rattle.logic.proofs.Laws.{and_left, and_right}
 use Rattle.logic.proofs.Means.{equal, split}
 use Rattle.entry.specs.declared.PageState.{PageState}
@@ -13,13 +12,13 @@ use Rattle.node.specs.declared.Node.{Node}
 use Rattle.node.specs.Node.{hidden_of, out_of}
 use Rattle.tables.specs.Tables.{node_of}
 use Rattle.frames.specs.Frames.{free_frame_in}
-use Rattle.lookup.specs.declared.CommitResult.{CommitResult}
-use Rattle.lookup.specs.declared.CommitResult.TheVariants.{NewPage, Stopped}
+use Rattle.lookup.specs.Work.{Looked, Work, Looking, looking_of}
+use Rattle.lookup.specs.declared.CommitResult.TheVariants.{NewPage}
+use Rattle.lookup.specs.declared.LookupError.TheVariants.{Stopped}
 use Rattle.lookup.specs.declared.Place.{Place}
 use Rattle.lookup.specs.declared.End.{End}
 use Rattle.lookup.specs.declared.End.TheVariants.{Has, Bare, Tired}
-use Rattle.lookup.specs.Work.{Work, Looking, looking_of}
-use Rattle.lookup.specs.Mode.{Mode, today, node_at, up_from, up, ups, halts_at}
+use Rattle.lookup.specs.Mode.{Mode, today, node_at, up, ups, halts_at}
 use Rattle.lookup.specs.Level.{cleared, fresh_by, fresh_in, fresh, serve, pass_by, pass}
 use Rattle.lookup.specs.Lookup.{look_in}
 use Rattle.lookup.specs.Descent.{way, walk, top, descent, hidden_up}
@@ -27,24 +26,12 @@ use Rattle.lookup.proofs.Same.{look_same}
 use Rattle.lookup.proofs.Join.{Final, descent_final}
 
 module _ (m : Mode) (write : Bool) where
-  pub down_none : (d : ℕ) (p : Place) (g : Looking) → d ≡ 0 → g ≡ descent m write d p g
-  unfolding descent
-  down_none d p g e = rw e
-
-  pub down_next : (d : ℕ) (p : Place) (g : Looking) {n : Node} {q : Place} {a : CommitResult} {w : Work} {r : Looking} → 0 < d → n ≡ node_at m p → q ≡ up_from n p → looking_of a w ≡ descent m write (d - 1) q g → r ≡ pass_by m write p a w → r ≡ descent m write d p g
-  unfolding descent
-  down_next d p g {n} {q} {a} {w} pos e u s r =
-      let one : suc (d - 1) ≡ d = omega arith in
-      let z : q ≡ up m p = rw (← e) u in
-      let t : looking_of a w ≡ descent m write (d - 1) (up m p) g = rw (← z) s in
-      r ∙ ap (pass m write p) t ∙ ap (λ (k : ℕ). descent m write k p g) one
-
-  pub down_final : (d : ℕ) (p : Place) {a : CommitResult} (w : Work) → Final m write a → looking_of a w ≡ descent m write d p (looking_of a w)
+  pub down_final : (d : ℕ) (p : Place) {a : Looked} (w : Work) → Final m write a → looking_of a w ≡ descent m write d p (looking_of a w)
   down_final d p {a} w f = sym (descent_final m write d p a w f)
 
   -- where all nodes above p are hidden, a cleared frame passes them, and p keeps it
   module _ (g : ℕ) (v : Work) where
-    falls : (d : ℕ) (q : Place) → ((j : ℕ) → j < d → hidden_of (node_at m (ups m j q)) ≡ true) → descent m write d q (looking_of (NewPage g) v) ≡ looking_of (NewPage g) v
+    falls : (d : ℕ) (q : Place) → ((j : ℕ) → j < d → hidden_of (node_at m (ups m j q)) ≡ true) → descent m write d q (looking_of (Ok (NewPage g)) v) ≡ looking_of (Ok (NewPage g)) v
     unfolding descent ups pass_by
     falls zero q h = refl
     falls (suc d) q h = ap (pass m write q) (falls d (up m q) (λ j l. h (suc j) (omega arith))) ∙ rw (h 0 (omega arith))
@@ -58,11 +45,11 @@ module _ (m : Mode) (write : Bool) where
       (λ ne. all_hidden d p (and_left (hidden_up m d p) _ h) j (omega arith))
 
   module _ (w : Work) (d : ℕ) (p : Place) (up-hidden : hidden_up m d p ≡ true) (leaf : hidden_of (node_at m p) ≡ false) (goes : halts_at m (ups m d p) ≡ false) where
-    lands_by : (d : ℕ) → hidden_up m d p ≡ true → halts_at m (ups m d p) ≡ false → (f : Found) → fresh_by m.bytes f w p false false ≡ descent m write d p (fresh_by m.bytes f w (ups m d p) (hidden_of (node_at m (ups m d p))) (halts_at m (ups m d p)))
+    lands_by : (d : ℕ) → hidden_up m d p ≡ true → halts_at m (ups m d p) ≡ false → (f : Option ℕ) → fresh_by m.bytes f w p false false ≡ descent m write d p (fresh_by m.bytes f w (ups m d p) (hidden_of (node_at m (ups m d p))) (halts_at m (ups m d p)))
     unfolding fresh_by descent ups pass_by
-    lands_by d h o Nothing = down_final d p w tt
-    lands_by zero h o (At g) = rw (leaf, o)
-    lands_by (suc d) h o (At g) =
+    lands_by d h o None = down_final d p w tt
+    lands_by zero h o (Some g) = rw (leaf, o)
+    lands_by (suc d) h o (Some g) =
         rw (all_hidden (suc d) p h d (omega arith), o)
         (sym (ap (pass m write p) (falls g (cleared m.bytes w g) d (up m p) (λ j l. all_hidden (suc d) p h j (omega arith))) ∙ rw leaf))
 
@@ -89,7 +76,7 @@ module _ (N M : List ℕ) (write : Bool) (w : Work) (d : ℕ) (p q : Place) (the
       by true false true t = let z : ◌≡◌ {A = ℕ} 0 1 = cc in absurd (omega arith)
       by false b o t = let z : ◌≡◌ {A = ℕ} 0 1 = cc in absurd (omega arith)
 
-  pub brings : {b : Bool} {a : CommitResult} {v : Work} {r : Looking} → b ≡ hidden_of o → looking_of a v ≡ fresh_in 4096 write w q b out → r ≡ descent (today 4096 N M) write d p (looking_of a v) → r ≡ descent (today 4096 N M) write d p (fresh (today 4096 N M) write w q)
+  pub brings : {b : Bool} {a : Looked} {v : Work} {r : Looking} → b ≡ hidden_of o → looking_of a v ≡ fresh_in 4096 write w q b out → r ≡ descent (today 4096 N M) write d p (looking_of a v) → r ≡ descent (today 4096 N M) write d p (fresh (today 4096 N M) write w q)
   brings y c r = r ∙ ap (descent (today 4096 N M) write d p) (c ∙ rw (y, k, f))
 
 -- the lookup, by the walk's end
@@ -105,6 +92,6 @@ module _ (m : Mode) (write : Bool) (w : Work) (p : Place) {d : ℕ} {x : End} {q
   unfolding top
   looked_bare r z c = c ∙ looked Bare z
 
-  pub looked_tired : x ≡ Tired → looking_of Stopped w ≡ look_in m 64 write w p
+  pub looked_tired : x ≡ Tired → looking_of (Err Stopped) w ≡ look_in m 64 write w p
   unfolding top
   looked_tired z = down_final m write d p w tt ∙ looked Tired z

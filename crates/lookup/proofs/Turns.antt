@@ -1,4 +1,5 @@
 -- The walk, turn by turn. Assumes nothing.
+use Rattle.std.specs.Prelude.{Option, None, Some}
 use mathlib.Core.Path.{◌≡◌, refl, sym, ap, ◌∙◌}
 use mathlib.Core.Bool.{Bool, true, false, ◌&&◌}
 use mathlib.Core.List.{List}
@@ -6,17 +7,14 @@ use Prim.Native.Nat.{ℕ, zero, suc, ◌+◌, ◌-◌, ◌*◌, ◌≤◌, ◌<�
 use native.Mathlib.Omega.{arith}
 use native.Mathlib.Numerals.{add-one}
 use Rattle.entry.specs.declared.PageState.{PageState}
-use Rattle.entry.specs.declared.Slot.{Slot}
-use Rattle.entry.specs.declared.Slot.TheVariants.{Empty, Held}
-use Rattle.node.specs.declared.Node.{Node}
-use Rattle.node.specs.Node.{hidden_of, out_of}
+use Rattle.node.specs.Node.{hidden_of}
 use Rattle.tables.specs.Tables.{node_of, slot_at}
 use Rattle.lookup.specs.declared.Place.{Place}
 use Rattle.lookup.specs.declared.End.{End}
-use Rattle.lookup.specs.declared.End.TheVariants.{Has, Bare, Tired}
+use Rattle.lookup.specs.declared.End.TheVariants.{Tired}
 use Rattle.lookup.specs.declared.Turn.{Turn}
 use Rattle.lookup.specs.declared.Turn.TheVariants.{Ends, Climbs}
-use Rattle.lookup.specs.Mode.{Mode, today, asks_by, up_from, up, ups, asks}
+use Rattle.lookup.specs.Mode.{Mode, today, up, ups, asks}
 use Rattle.lookup.specs.Descent.{Way, way, further, turn_by, turn, walk_by, walk, hidden_up}
 
 pub climbs_one : {a b : Place} → Climbs a ≡ Climbs b → a ≡ b
@@ -25,50 +23,33 @@ climbs_one h = cc
 pub ends_not : {x : End} {q : Place} {A : Type 0} → Ends x ≡ Climbs q → A
 ends_not h = let z : ◌≡◌ {A = ℕ} 0 1 = cc in absurd (omega arith)
 
--- a turn, by what the node has and whether its parent is asked
-module _ (N M P : List ℕ) (p : Place) {s : Slot} (e : s ≡ slot_at P p.node p.page) where
-  pub turn_has : {x : PageState} → s ≡ Held x → Ends (Has x) ≡ turn (today 4096 N M) P p
-  turn_has h = rw (sym e ∙ h)
-
-  module _ {n : Node} {a : Bool} (z : s ≡ Empty) (f : n ≡ node_of N p.node) (g : a ≡ asks_by n (out_of n p.page)) where
-    asked : asks (today 4096 N M) p ≡ a
-    unfolding asks
-    asked = rw (← f) (sym g)
-
-    pub turn_climbs : {q : Place} → a ≡ true → q ≡ up_from n p → Climbs q ≡ turn (today 4096 N M) P p
-    turn_climbs t u = rw (sym e ∙ z, asked ∙ t, u, f)
-
-    pub turn_bare : a ≡ false → Ends Bare ≡ turn (today 4096 N M) P p
-    turn_bare t = rw (sym e ∙ z, asked ∙ t)
-
 -- what follows a turn
-
 ups-next : (m : Mode) (k : ℕ) (p : Place) → ups m (suc k) p ≡ up m (ups m k p)
 unfolding ups
 ups-next m zero p = refl
 ups-next m (suc k) p = ups-next m k (up m p)
 
 module _ (m : Mode) (P : List ℕ) (p : Place) where
-  turn-up_by : (s : Slot) (a : Bool) (q : Place) → turn_by s a (up m p) ≡ Climbs q → q ≡ up m p
-  turn-up_by (Held s) a q h = ends_not h
-  turn-up_by Empty true q h = sym (climbs_one h)
-  turn-up_by Empty false q h = ends_not h
+  turn-up_by : (s : Option PageState) (a : Bool) (q : Place) → turn_by s a (up m p) ≡ Climbs q → q ≡ up m p
+  turn-up_by (Some s) a q h = ends_not h
+  turn-up_by None true q h = sym (climbs_one h)
+  turn-up_by None false q h = ends_not h
 
   turn_up : (q : Place) → turn m P p ≡ Climbs q → q ≡ up m p
   turn_up q h = turn-up_by (slot_at P p.node p.page) (asks m p) q h
 
-  goes_by : (s : Slot) (a : Bool) (q : Place) (y : Way) → turn_by s a (up m p) ≡ Climbs q → walk_by s a y ≡ y
-  goes_by (Held s) a q y h = ends_not h
-  goes_by Empty true q y h = refl
-  goes_by Empty false q y h = ends_not h
+  goes_by : (s : Option PageState) (a : Bool) (q : Place) (y : Way) → turn_by s a (up m p) ≡ Climbs q → walk_by s a y ≡ y
+  goes_by (Some s) a q y h = ends_not h
+  goes_by None true q y h = refl
+  goes_by None false q y h = ends_not h
 
   ends_one : {x y : End} → Ends x ≡ Ends y → x ≡ y
   ends_one h = cc
 
-  ends_by : (s : Slot) (a : Bool) (x : End) (y : Way) → turn_by s a (up m p) ≡ Ends x → walk_by s a y ≡ way 0 x
-  ends_by (Held s) a x y h = rw (← ends_one h)
-  ends_by Empty true x y h = ends_not (sym h)
-  ends_by Empty false x y h = rw (← ends_one h)
+  ends_by : (s : Option PageState) (a : Bool) (x : End) (y : Way) → turn_by s a (up m p) ≡ Ends x → walk_by s a y ≡ way 0 x
+  ends_by (Some s) a x y h = rw (← ends_one h)
+  ends_by None true x y h = ends_not (sym h)
+  ends_by None false x y h = rw (← ends_one h)
 
   walk_goes : (k : ℕ) (q : Place) → turn m P p ≡ Climbs q → walk m (suc k) P p ≡ further (walk m k P q)
   unfolding walk
@@ -124,10 +105,3 @@ module _ {N P : List ℕ} {p : Place} {k : ℕ} {q : Place} {h : Bool} (c : Clim
   climbed_ends {t} {x} e g M =
       let z : k + 0 ≡ k = omega arith in
       sym (c.rest M ∙ ap (raised k) (walk_ended (today 4096 N M) P q (64 - k) x (sym (e M) ∙ g)) ∙ ap (λ n. way n x) z)
-
-  pub climbed_last : {x : End} → 64 ≤ k → ((M : List ℕ) → way 0 x ≡ walk (today 4096 N M) 0 P q) → (M : List ℕ) → way k x ≡ walk (today 4096 N M) 64 P p
-  climbed_last {x} l e M =
-      let f = c.few in
-      let z : k + 0 ≡ k = omega arith in
-      let s : 64 - k ≡ 0 = omega arith in
-      sym (c.rest M ∙ rw s (ap (raised k) (sym (e M))) ∙ ap (λ n. way n x) z)

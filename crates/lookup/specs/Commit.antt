@@ -1,27 +1,34 @@
 -- commit_page, 520: what page lookup gives its callers.
-use Rattle.std.specs.Prelude.{ℕ, Bool, List}
+use Rattle.std.specs.Prelude.{ℕ, Bool, List, Option, Some, None, Result, Ok, Err}
 use Rattle.outcome.specs.declared.answer.Refusal as R
-use Rattle.lookup.specs.declared.CommitResult.{CommitResult}
-use Rattle.lookup.specs.declared.CommitResult.TheVariants.{Ref, Zero, CopyOnWrite, NewPage, NoMemory, Stopped}
-use Rattle.lookup.specs.declared.Committed.{Committed}
-use Rattle.lookup.specs.declared.Committed.TheVariants.{Frame, ZeroFrame, Refused}
+use Rattle.outcome.specs.declared.answer.Refusal.{Refusal}
+use Rattle.lookup.specs.Work.{Looked, Work, Looking}
+use Rattle.lookup.specs.declared.CommitResult.TheVariants.{Ref, Zero, CopyOnWrite, NewPage}
+use Rattle.lookup.specs.declared.LookupError.{LookupError}
+use Rattle.lookup.specs.declared.LookupError.TheVariants.{NoMemory, Stopped}
 use Rattle.lookup.specs.declared.Ask.{Ask}
-use Rattle.lookup.specs.Work.{Work, Looking}
 use Rattle.lookup.specs.Mode.{place_of}
 use Rattle.lookup.specs.Lookup.{look}
 
 -- an object asks for a page of its own
-abbrev pub ask_of : ℕ → ℕ → Bool → ℕ → Ask
-ask_of n i write count = record { place = place_of n i n; write = write; count = count }
+abbrev pub ask_of : ℕ → ℕ → Bool → Ask
+ask_of n i write = record { place = place_of n i n; write = write }
+
+-- a frame, or none for the shared zero frame; or a refusal
+abbrev pub Committed : Type 0
+Committed = Result (Option ℕ) Refusal
+
+abbrev pub refusal_of : LookupError → Refusal
+refusal_of NoMemory = R.TheVariants.NoMemory
+refusal_of Stopped = R.TheVariants.Stopped
 
 -- what is handed up goes to no child: the source's unreachable!
-abbrev pub committed_by : CommitResult → Committed
-committed_by (Ref f) = Frame f
-committed_by Zero = ZeroFrame
-committed_by NoMemory = Refused R.TheVariants.NoMemory
-committed_by Stopped = Refused R.TheVariants.Stopped
-committed_by (CopyOnWrite f u) = Refused R.TheVariants.Stopped
-committed_by (NewPage f) = Refused R.TheVariants.Stopped
+abbrev pub committed_by : Looked → Committed
+committed_by (Ok (Ref f)) = Ok (Some f)
+committed_by (Ok Zero) = Ok None
+committed_by (Err r) = Err (refusal_of r)
+committed_by (Ok (CopyOnWrite f u)) = Err R.TheVariants.Stopped
+committed_by (Ok (NewPage f)) = Err R.TheVariants.Stopped
 
 pub record Committing : Type 0 where
   pub answer : Committed

@@ -1,11 +1,10 @@
 -- Page lookup in two halves, which is the same: a walk that moves nothing, and the descent of what it found.
-use Rattle.std.specs.Prelude.{ℕ, zero, suc, Bool, true, false, ◌&&◌, List}
+use Rattle.std.specs.Prelude.{ℕ, zero, suc, Bool, true, false, ◌&&◌, List, Option, None, Some, Err}
+use Rattle.entry.specs.declared.PageState.{PageState}
 use Rattle.logic.specs.Pick.{pick}
-use Rattle.entry.specs.declared.Slot.{Slot}
-use Rattle.entry.specs.declared.Slot.TheVariants.{Empty, Held}
 use Rattle.node.specs.Node.{hidden_of}
 use Rattle.tables.specs.Tables.{slot_at}
-use Rattle.lookup.specs.declared.CommitResult.TheVariants.{Stopped}
+use Rattle.lookup.specs.declared.LookupError.TheVariants.{Stopped}
 use Rattle.lookup.specs.declared.Place.{Place}
 use Rattle.lookup.specs.declared.End.{End}
 use Rattle.lookup.specs.declared.End.TheVariants.{Has, Bare, Tired}
@@ -27,16 +26,16 @@ abbrev pub further : Way → Way
 further y = way (suc y.levels) y.end
 
 -- one node's turn: the walk ends here, or the parent is asked
-abbrev pub turn_by : Slot → Bool → Place → Turn
-turn_by (Held s) asked q = Ends (Has s)
-turn_by Empty asked q = pick asked (Climbs q) (Ends Bare)
+abbrev pub turn_by : Option PageState → Bool → Place → Turn
+turn_by (Some s) asked q = Ends (Has s)
+turn_by None asked q = pick asked (Climbs q) (Ends Bare)
 
 abbrev pub turn : Mode → List ℕ → Place → Turn
 turn m P p = turn_by (slot_at P p.node p.page) (asks m p) (up m p)
 
-abbrev pub walk_by : Slot → Bool → Way → Way
-walk_by (Held s) asked above = way 0 (Has s)
-walk_by Empty asked above = pick asked above (way 0 Bare)
+abbrev pub walk_by : Option PageState → Bool → Way → Way
+walk_by (Some s) asked above = way 0 (Has s)
+walk_by None asked above = pick asked above (way 0 Bare)
 
 -- `left` parents may still be asked
 unfoldable pub walk : Mode → ℕ → List ℕ → Place → Way
@@ -47,7 +46,7 @@ walk m (suc left) P p = walk_by (slot_at P p.node p.page) (asks m p) (further (w
 unfoldable pub top : Mode → Bool → Work → Place → End → Looking
 top m write w p (Has s) = serve m write p s false w
 top m write w p Bare = fresh m write w p
-top m write w p Tired = looking_of Stopped w
+top m write w p Tired = looking_of (Err Stopped) w
 
 -- an answer given so many levels up comes down to p: the parent's part first, then the node's
 unfoldable pub descent : Mode → Bool → ℕ → Place → Looking → Looking

@@ -4,3 +4,4 @@ pub mod Level
 pub mod Lookup
 pub mod Descent
 pub mod Commit
+pub mod Lent

@@ -1,4 +1,5 @@
 -- On every sound pool a lookup for writing takes exactly `need` frames, is refused for want of them, or stops and takes none. Assumes nothing.
+use Rattle.std.specs.Prelude.{Err, Ok}
 use mathlib.Core.Path.{◌≡◌, refl, sym, ap}
 use mathlib.Core.Bool.{true}
 use mathlib.Core.List.{List, []}
@@ -11,12 +12,12 @@ use Rattle.tables.specs.Pool.{Pool}
 use Rattle.tables.specs.Tables.{node_of, slot_at}
 use Rattle.frames.specs.Frames.{free_count}
 use Rattle.sound.specs.Facts.{Leaf, Sound}
-use Rattle.lookup.specs.declared.CommitResult.{CommitResult}
-use Rattle.lookup.specs.declared.CommitResult.TheVariants.{Ref, NoMemory, Stopped}
+use Rattle.lookup.specs.Work.{Looked, Work, Looking, looking_of}
+use Rattle.lookup.specs.declared.CommitResult.TheVariants.{Ref}
+use Rattle.lookup.specs.declared.LookupError.TheVariants.{NoMemory, Stopped}
 use Rattle.lookup.specs.declared.Place.{Place}
 use Rattle.lookup.specs.declared.End.{End}
 use Rattle.lookup.specs.declared.End.TheVariants.{Has, Bare, Tired}
-use Rattle.lookup.specs.Work.{Work, Looking, looking_of}
 use Rattle.lookup.specs.Mode.{today, place_of, up, asks}
 use Rattle.lookup.specs.Lookup.{look}
 use Rattle.lookup.specs.Descent.{further, walk_by, walk}
@@ -79,28 +80,28 @@ write_exact L p sound w l i c leaf =
 
 -- by what the lookup answered
 
-shared_not : {f : ℕ} {A : Type 0} → Ref f ≡ NoMemory → A
+shared_not : {f : ℕ} {A : Type 0} → ◌≡◌ {A = Looked} (Ok (Ref f)) (Err NoMemory) → A
 shared_not e = let z : ◌≡◌ {A = ℕ} 0 1 = cc in absurd (omega arith)
 
-stopped_not : {f : ℕ} {A : Type 0} → Ref f ≡ Stopped → A
+stopped_not : {f : ℕ} {A : Type 0} → ◌≡◌ {A = Looked} (Ok (Ref f)) (Err Stopped) → A
 stopped_not e = let z : ◌≡◌ {A = ℕ} 0 1 = cc in absurd (omega arith)
 
-denied_not : {A : Type 0} → NoMemory ≡ Stopped → A
+denied_not : {A : Type 0} → ◌≡◌ {A = Looked} (Err NoMemory) (Err Stopped) → A
 denied_not e = let z : ◌≡◌ {A = ℕ} 0 1 = cc in absurd (omega arith)
 
-same_work : {a b : CommitResult} {v y : Work} → looking_of a v ≡ looking_of b y → v ≡ y
+same_work : {a b : Looked} {v y : Work} → looking_of a v ≡ looking_of b y → v ≡ y
 same_work e = ap (λ (r : Looking). r.work) e
 
-same_answer : {a b : CommitResult} {v y : Work} → looking_of a v ≡ looking_of b y → a ≡ b
+same_answer : {a b : Looked} {v y : Work} → looking_of a v ≡ looking_of b y → a ≡ b
 same_answer e = ap (λ (r : Looking). r.answer) e
 
 module _ {n : ℕ} {w v : Work} where
-  pub pays_gives : {f : ℕ} → Pays n w (looking_of (Ref f) v) → free_count w.used ≡ free_count v.used + n
+  pub pays_gives : {f : ℕ} → Pays n w (looking_of (Ok (Ref f)) v) → free_count w.used ≡ free_count v.used + n
   pays_gives (gives g y e c) = rw (same_work e) c
   pays_gives (refuses y e l o) = shared_not (same_answer e)
   pays_gives (stops y e c) = stopped_not (same_answer e)
 
-  pub pays_refuses : Pays n w (looking_of NoMemory v) → (free_count w.used < n) × (free_count v.used ≡ 0)
+  pub pays_refuses : Pays n w (looking_of (Err NoMemory) v) → (free_count w.used < n) × (free_count v.used ≡ 0)
   pays_refuses (gives g y e c) = shared_not (sym (same_answer e))
   pays_refuses (refuses y e l o) = (l, rw (same_work e) o)
   pays_refuses (stops y e c) = denied_not (same_answer e)

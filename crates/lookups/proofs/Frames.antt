@@ -1,4 +1,5 @@
 -- A free frame is taken, or an entry's tag changed; and how many frames are free. Assumes nothing.
+use Rattle.std.specs.Prelude.{Some, None}
 use mathlib.Core.Path.{◌≡◌, refl, sym, ap, ◌∙◌, subst}
 use mathlib.Core.Bool.{Bool, true, false}
 use mathlib.Core.List.{List}
@@ -10,12 +11,10 @@ use lib.Seq.{get_or-set_same, get_or-set_other}
 use borrow.Author.Tests.{eqb-true, ltb-true, lt-ltb}
 use Rattle.logic.specs.Pick.{pick}
 use Rattle.logic.specs.Below.{sum_below, first_from}
-use Rattle.logic.specs.declared.Found.TheVariants.{At, Nothing}
 use Rattle.logic.proofs.Means.{equal, split}
 use Rattle.logic.proofs.Laws.{and_left, and_right, first_below}
 use Rattle.entry.specs.declared.PageState.{PageState}
 use Rattle.entry.specs.declared.PageStateTag.{PageStateTag}
-use Rattle.entry.specs.declared.Slot.TheVariants.{Held}
 use Rattle.entry.specs.Entry.{tagged_of}
 use Rattle.frames.specs.Frames.{idle_of, one_idle, free_count, free_frame_in}
 use Rattle.sound.specs.Facts.{Hidden, Holds, Stands, Entries}
@@ -26,20 +25,20 @@ use Rattle.lookups.proofs.Rows.{Rows, Fit, either, rows_wrote, rows_of, Loose}
 
 -- a search finds what it looks for, or there is none
 
-holds_by : (f : ℕ → Bool) (k n i : ℕ) (b : Bool) → f k ≡ b → ((k i : ℕ) → first_from f k n ≡ At i → f i ≡ true) → pick b (At k) (first_from f (k + 1) n) ≡ At i → f i ≡ true
+holds_by : (f : ℕ → Bool) (k n i : ℕ) (b : Bool) → f k ≡ b → ((k i : ℕ) → first_from f k n ≡ Some i → f i ≡ true) → pick b (Some k) (first_from f (k + 1) n) ≡ Some i → f i ≡ true
 holds_by f k n i true t ih e = let h : k ≡ i = cc in rw (← h) t
 holds_by f k n i false t ih e = ih (k + 1) i e
 
-first_holds : (f : ℕ → Bool) (k n i : ℕ) → first_from f k n ≡ At i → f i ≡ true
+first_holds : (f : ℕ → Bool) (k n i : ℕ) → first_from f k n ≡ Some i → f i ≡ true
 unfolding first_from
 first_holds f k zero i e = let z : ◌≡◌ {A = ℕ} 0 1 = cc in absurd (omega arith)
 first_holds f k (suc n) i e = holds_by f k n i (f k) refl (λ k i h. first_holds f k n i h) e
 
-none_by : (f : ℕ → Bool) (k n j : ℕ) (b : Bool) → f k ≡ b → ((k : ℕ) → first_from f k n ≡ Nothing → (j : ℕ) → k ≤ j → j < k + n → f j ≡ false) → pick b (At k) (first_from f (k + 1) n) ≡ Nothing → k ≤ j → j < k + suc n → f j ≡ false
+none_by : (f : ℕ → Bool) (k n j : ℕ) (b : Bool) → f k ≡ b → ((k : ℕ) → first_from f k n ≡ None → (j : ℕ) → k ≤ j → j < k + n → f j ≡ false) → pick b (Some k) (first_from f (k + 1) n) ≡ None → k ≤ j → j < k + suc n → f j ≡ false
 none_by f k n j true t ih e l m = let z : ◌≡◌ {A = ℕ} 0 1 = cc in absurd (omega arith)
 none_by f k n j false t ih e l m = split (equal j k) (λ h. rw h t) (λ ne. ih (k + 1) e j (omega arith) (omega arith))
 
-first-none : (f : ℕ → Bool) (k n : ℕ) → first_from f k n ≡ Nothing → (j : ℕ) → k ≤ j → j < k + n → f j ≡ false
+first-none : (f : ℕ → Bool) (k n : ℕ) → first_from f k n ≡ None → (j : ℕ) → k ≤ j → j < k + n → f j ≡ false
 unfolding first_from
 first-none f k zero e j l m = absurd (omega arith)
 first-none f k (suc n) e j l m = none_by f k n j (f k) refl (λ k h j. first-none f k n h j) e l m
@@ -50,7 +49,7 @@ pub record Idle (U : List ℕ) (g : ℕ) : Type 0 where
   pub below : g < length U
   pub flag : get_or U g 0 ≡ 0
 
-pub free_idle : (U : List ℕ) (g : ℕ) → free_frame_in U ≡ At g → Idle U g
+pub free_idle : (U : List ℕ) (g : ℕ) → free_frame_in U ≡ Some g → Idle U g
 unfolding free_frame_in idle_of
 free_idle U g e =
     let h = first_holds (idle_of U) 0 1024 g e in
@@ -85,7 +84,7 @@ set_other : (U : List ℕ) (g j : ℕ) → (j ≡ g → ⊥) → one_idle U j �
 unfolding one_idle idle_of
 set_other U g j ne = rw (get_or-set_other U g j 1 0 ne, length-set U g 1)
 
-pub one_less : (U : List ℕ) (g : ℕ) → free_frame_in U ≡ At g → free_count U ≡ free_count (set U g 1) + 1
+pub one_less : (U : List ℕ) (g : ℕ) → free_frame_in U ≡ Some g → free_count U ≡ free_count (set U g 1) + 1
 unfolding free_frame_in free_count
 one_less U g e =
     let i = free_idle U g e in
@@ -102,7 +101,7 @@ unfolding sum_below
 zero_sum zero = refl
 zero_sum (suc m) = let q = zero_sum m in omega arith
 
-pub none_free : (U : List ℕ) → free_frame_in U ≡ Nothing → free_count U ≡ 0
+pub none_free : (U : List ℕ) → free_frame_in U ≡ None → free_count U ≡ 0
 unfolding free_frame_in free_count
 none_free U e = sum_agree (one_idle U) (λ j. 0) 1024 (λ j l. none_idle U j (first-none (idle_of U) 0 1024 e j (omega arith) (omega arith))) ∙ zero_sum 1024
 
@@ -135,14 +134,14 @@ module _ {N P U : List ℕ} {g : ℕ} (e : Entries N P U) (i : Idle U g) where
 
 -- a hidden node's entry gets another tag
 
-module _ {N P P' U : List ℕ} {h q g : ℕ} {s : PageState} {t : PageStateTag} (e : Loose N P U g) (x : Holds P h q s) (k : Hidden N h) (w : Wrote P P' h q (Held (tagged_of s t))) where
+module _ {N P P' U : List ℕ} {h q g : ℕ} {s : PageState} {t : PageStateTag} (e : Loose N P U g) (x : Holds P h q s) (k : Hidden N h) (w : Wrote P P' h q (Some (tagged_of s t))) where
   before : (n i : ℕ) (u : PageState) → Holds P' n i u → (v : PageState) × Holds P n i v × (v.frame ≡ u.frame)
   before n i u y = either w n i u y (λ a b z. (s, rw (a, b) x, ap (λ (v : PageState). v.frame) (held_one z))) (λ ne z. (u, z, refl))
 
   still_stands : (f : ℕ) → Stands P f → Stands P' f
   still_stands f a = by (spot a.node a.page h q)
     where
-      frame_is : (v : PageState) → Held v ≡ Held s → v.frame ≡ s.frame
+      frame_is : (v : PageState) → Some v ≡ Some s → v.frame ≡ s.frame
       frame_is v z = rw (held_one z)
 
       by : Spot a.node a.page h q → Stands P' f
@@ -179,6 +178,6 @@ back_idle : (U : List ℕ) (g j : ℕ) → Idle U g → one_idle (set (set U g 1
 unfolding one_idle idle_of
 back_idle U g j i = rw (back_same U g j i, length-set (set U g 1) g 0, length-set U g 1)
 
-pub back_free : (U : List ℕ) (g : ℕ) → free_frame_in U ≡ At g → free_count (set (set U g 1) g 0) ≡ free_count U
+pub back_free : (U : List ℕ) (g : ℕ) → free_frame_in U ≡ Some g → free_count (set (set U g 1) g 0) ≡ free_count U
 unfolding free_count
 back_free U g e = sum_agree (one_idle (set (set U g 1) g 0)) (one_idle U) 1024 (λ j l. back_idle U g j (free_idle U g e))

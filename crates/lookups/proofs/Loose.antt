@@ -1,17 +1,17 @@
 -- A frame on its way to an entry, and what a step of page lookup leaves, in a sound pool whatever its windows. Assumes nothing.
+use Rattle.std.specs.Prelude.{None, Some, Err, Ok as Gave}
 use mathlib.Core.Path.{◌≡◌, ap, ◌∙◌}
 use mathlib.Core.List.{List}
 use Prim.Native.Nat.{ℕ, ◌*◌, ◌≤◌, ◌<◌}
 use native.Mathlib.Omega.{arith}
 use lib.ListN.{length}
 use Rattle.entry.specs.declared.PageState.{PageState}
-use Rattle.entry.specs.declared.Slot.TheVariants.{Empty, Held}
 use Rattle.entry.specs.Entry.{new_state}
 use Rattle.tables.specs.Tables.{node_of, slot_at, with_state}
 use Rattle.outcome.specs.Told.{Told}
-use Rattle.lookup.specs.declared.CommitResult.{CommitResult}
-use Rattle.lookup.specs.declared.CommitResult.TheVariants.{Ref, Zero, CopyOnWrite, NewPage, NoMemory, Stopped}
-use Rattle.lookup.specs.Work.{Work, Looking}
+use Rattle.lookup.specs.Work.{Looked, Work, Looking}
+use Rattle.lookup.specs.declared.CommitResult.TheVariants.{Ref, Zero, CopyOnWrite, NewPage}
+use Rattle.lookup.specs.declared.LookupError.TheVariants.{NoMemory, Stopped}
 use Rattle.lookup.specs.Level.{with_told, kept}
 use Rattle.sound.specs.Facts.{Hidden, Holds}
 use Rattle.lookups.proofs.Table.{Wrote, others, wrote_state}
@@ -29,13 +29,13 @@ module _ (N : List ℕ) (B : Base N) (L F : ℕ) where
     pub loose : Loose N w.pages w.used f
 
   -- only a hidden node hands a frame down
-  abbrev pub Keeps : ℕ → CommitResult → Work → Type 0
-  Keeps n (CopyOnWrite f u) w = Hidden N n × Hand w f
-  Keeps n (NewPage f) w = Hidden N n × Hand w f
-  Keeps n (Ref f) w = Ok N L F w
-  Keeps n Zero w = Ok N L F w
-  Keeps n NoMemory w = Ok N L F w
-  Keeps n Stopped w = Ok N L F w
+  abbrev pub Keeps : ℕ → Looked → Work → Type 0
+  Keeps n (Gave (CopyOnWrite f u)) w = Hidden N n × Hand w f
+  Keeps n (Gave (NewPage f)) w = Hidden N n × Hand w f
+  Keeps n (Gave (Ref f)) w = Ok N L F w
+  Keeps n (Gave Zero) w = Ok N L F w
+  Keeps n (Err NoMemory) w = Ok N L F w
+  Keeps n (Err Stopped) w = Ok N L F w
 
   -- entries of deeper nodes stay
   pub record Post (s : Work) (n : ℕ) (r : Looking) : Type 0 where
@@ -51,11 +51,11 @@ module _ (N : List ℕ) (B : Base N) (L F : ℕ) where
   module _ (n i : ℕ) where
     -- an entry of the page written, where the page lies below the size
     module _ (low : i < (node_of N n).size) where
-      pub put_wrote : (P : List ℕ) (e : PageState) → length P ≡ 4096 → e.frame < 1024 → e.pin_count ≤ 31 → Wrote P (with_state P n i e) n i (Held e)
+      pub put_wrote : (P : List ℕ) (e : PageState) → length P ≡ 4096 → e.frame < 1024 → e.pin_count ≤ 31 → Wrote P (with_state P n i e) n i (Some e)
       put_wrote P e len f p = wrote_state P n i (page_low N B n i low) (node_low N B n i low) len e (omega arith) (omega arith)
 
       -- the frame comes to stand at the page
-      pub keep_ok : (w : Work) (f : ℕ) → Hand w f → slot_at w.pages n i ≡ Empty → Ok N L F (kept w n i f)
+      pub keep_ok : (w : Work) (f : ℕ) → Hand w f → slot_at w.pages n i ≡ None → Ok N L F (kept w n i f)
       keep_ok w f h z =
           let l = h.loose.frame in
           let u = h.used in

@@ -1,4 +1,5 @@
 -- Page lookup for reading takes no frame and tells nothing, in every mode; in a sound pool it always answers. Assumes nothing.
+use Rattle.std.specs.Prelude.{Err, Ok}
 use mathlib.Core.Path.{◌≡◌, refl, ◌∙◌}
 use mathlib.Core.Bool.{Bool, false}
 use mathlib.Core.List.{List}
@@ -8,9 +9,9 @@ use Rattle.node.specs.Node.{hidden_of}
 use Rattle.tables.specs.Pool.{Pool}
 use Rattle.tables.specs.Tables.{node_of}
 use Rattle.sound.specs.Facts.{Leaf, Sound}
-use Rattle.lookup.specs.declared.CommitResult.{CommitResult}
-use Rattle.lookup.specs.declared.CommitResult.TheVariants.{Ref, Zero, CopyOnWrite, NewPage, NoMemory, Stopped}
-use Rattle.lookup.specs.Work.{Work, Looking, looking_of}
+use Rattle.lookup.specs.Work.{Looked, Work, Looking, looking_of}
+use Rattle.lookup.specs.declared.CommitResult.TheVariants.{Ref, Zero, CopyOnWrite, NewPage}
+use Rattle.lookup.specs.declared.LookupError.TheVariants.{NoMemory, Stopped}
 use Rattle.lookup.specs.Level.{child_told, leaf_told}
 use Rattle.lookup.specs.Lookup.{look}
 use Rattle.lookup.specs.Commit.{committed_by, commit_leaf}
@@ -32,7 +33,7 @@ use Rattle.lookup.proofs.Looks.{Looks, looks}
 use Rattle.lookup.proofs.Looks.Looks.{has, zeros, short, stops, clears, fills, quits, rests, falls, lands, takes}
 
 module _ {S : Type 0} where
-  still : {w : Work} {r : CommitResult} {v : Work} → Reads S r → v.used ≡ w.used → v.memory ≡ w.memory → v.told ≡ w.told → Quiet S w (looking_of r v)
+  still : {w : Work} {r : Looked} {v : Work} → Reads S r → v.used ≡ w.used → v.memory ≡ w.memory → v.told ≡ w.told → Quiet S w (looking_of r v)
   still a u y t = record { answer = a; used = u; memory = y; told = t }
 
   after : {w v : Work} {r : Looking} → v.used ≡ w.used → v.memory ≡ w.memory → v.told ≡ w.told → Quiet S v r → Quiet S w r
@@ -96,13 +97,13 @@ leaf_looks n (falls f v a l h e) = (true_not h n)
 leaf_looks n (lands f v a l h e) = rw e tt
 leaf_looks n (takes f u v a l x) = leaf_serves n x
 
-answers_by : (m : Mode) (r : CommitResult) → Reads ⊥ r → Final m false r → Readable (committed_by r)
-answers_by m (Ref f) a z = frame f refl
-answers_by m Zero a z = no_frame refl
-answers_by m NoMemory a z = absurd a
-answers_by m Stopped a z = absurd a
-answers_by m (CopyOnWrite f u) a z = absurd z
-answers_by m (NewPage f) a z = absurd z
+answers_by : (m : Mode) (r : Looked) → Reads ⊥ r → Final m false r → Readable (committed_by r)
+answers_by m (Ok (Ref f)) a z = frame f refl
+answers_by m (Ok Zero) a z = no_frame refl
+answers_by m (Err NoMemory) a z = absurd a
+answers_by m (Err Stopped) a z = absurd a
+answers_by m (Ok (CopyOnWrite f u)) a z = absurd z
+answers_by m (Ok (NewPage f)) a z = absurd z
 
 -- so of an object's page, as its callers see it
 

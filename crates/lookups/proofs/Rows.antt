@@ -1,4 +1,5 @@
 -- The facts of the page entries, kept as a frame is taken out of one entry and stands in another. Assumes nothing.
+use Rattle.std.specs.Prelude.{Option, None, Some}
 use mathlib.Core.Path.{◌≡◌, refl, sym, ◌∙◌}
 use mathlib.Core.List.{List}
 use Prim.Native.Nat.{ℕ, ◌≤◌, ◌<◌}
@@ -8,8 +9,6 @@ use Rattle.logic.specs.Below.{sum_below}
 use Rattle.logic.proofs.Means.{equal, split}
 use Rattle.entry.specs.declared.PageState.{PageState}
 use Rattle.entry.specs.declared.PageStateTag.TheVariants.{Owned}
-use Rattle.entry.specs.declared.Slot.{Slot}
-use Rattle.entry.specs.declared.Slot.TheVariants.{Empty, Held}
 use Rattle.entry.specs.Entry.{entry_word, new_state}
 use Rattle.tables.specs.Tables.{node_of, entry_of, slot_at}
 use Rattle.sound.specs.Facts.{Hidden, Holds, pins_of, Stands, Entries}
@@ -27,7 +26,7 @@ pub record Rows (N P : List ℕ) (F : ℕ) : Type 0 where
   pub hidden_pins : (n i : ℕ) (s : PageState) → Hidden N n → Holds P n i s → s.pin_count ≡ 0
   pub pin_sum : (n : ℕ) → sum_below (λ i. pins_of (slot_at P n i)) 64 ≤ (node_of N n).pin_count
   pub frames : (n i : ℕ) (s : PageState) → Holds P n i s → s.frame < F
-  pub empty : (n i : ℕ) → slot_at P n i ≡ Empty → entry_of P n i ≡ 0
+  pub empty : (n i : ℕ) → slot_at P n i ≡ None → entry_of P n i ≡ 0
   pub held : (n i : ℕ) (s : PageState) → Holds P n i s → entry_of P n i ≡ entry_word s
 
 -- an entry without pins that may stand at page r of node c
@@ -37,27 +36,27 @@ pub record Fit (N : List ℕ) (F c r : ℕ) (s : PageState) : Type 0 where
   pub leaves : (Hidden N c → ⊥) → s.tag ≡ Owned
   pub pins : s.pin_count ≡ 0
 
-no_pins : (N : List ℕ) (F c r : ℕ) (y : Slot) → ((s : PageState) → y ≡ Held s → Fit N F c r s) → pins_of y ≡ 0
-no_pins N F c r Empty fit = refl
-no_pins N F c r (Held s) fit = (fit s refl).pins
+no_pins : (N : List ℕ) (F c r : ℕ) (y : Option PageState) → ((s : PageState) → y ≡ Some s → Fit N F c r s) → pins_of y ≡ 0
+no_pins N F c r None fit = refl
+no_pins N F c r (Some s) fit = (fit s refl).pins
 
 -- what holds of each entry before and of the new one holds of each after
-module _ {P P' : List ℕ} {c r : ℕ} {y : Slot} (w : Wrote P P' c r y) where
-  pub either : {A : Type 0} (n i : ℕ) (s : PageState) → Holds P' n i s → (n ≡ c → i ≡ r → y ≡ Held s → A) → ((n ≡ c → i ≡ r → ⊥) → Holds P n i s → A) → A
+module _ {P P' : List ℕ} {c r : ℕ} {y : Option PageState} (w : Wrote P P' c r y) where
+  pub either : {A : Type 0} (n i : ℕ) (s : PageState) → Holds P' n i s → (n ≡ c → i ≡ r → y ≡ Some s → A) → ((n ≡ c → i ≡ r → ⊥) → Holds P n i s → A) → A
   either {A} n i s h f g = by (spot n i c r)
     where
       by : Spot n i c r → A
       by (there a b) = f a b (sym w.same ∙ (rw (a, b) at h))
       by (elsewhere ne) = g ne (sym (others w n i ne) ∙ h)
 
-  either_empty : {A : Type 0} (n i : ℕ) → slot_at P' n i ≡ Empty → (n ≡ c → i ≡ r → y ≡ Empty → A) → ((n ≡ c → i ≡ r → ⊥) → slot_at P n i ≡ Empty → A) → A
+  either_empty : {A : Type 0} (n i : ℕ) → slot_at P' n i ≡ None → (n ≡ c → i ≡ r → y ≡ None → A) → ((n ≡ c → i ≡ r → ⊥) → slot_at P n i ≡ None → A) → A
   either_empty {A} n i h f g = by (spot n i c r)
     where
       by : Spot n i c r → A
       by (there a b) = f a b (sym w.same ∙ (rw (a, b) at h))
       by (elsewhere ne) = g ne (sym (others w n i ne) ∙ h)
 
-  module _ (N : List ℕ) (F : ℕ) (o : Rows N P F) (fit : (s : PageState) → y ≡ Held s → Fit N F c r s) where
+  module _ (N : List ℕ) (F : ℕ) (o : Rows N P F) (fit : (s : PageState) → y ≡ Some s → Fit N F c r s) where
     pins_less : (n i : ℕ) → pins_of (slot_at P' n i) ≤ pins_of (slot_at P n i)
     pins_less n i = by (spot n i c r)
       where
@@ -106,12 +105,12 @@ pub record Loose (N P U : List ℕ) (f : ℕ) : Type 0 where
   pub taken : get_or U f 0 ≡ 1
   pub nowhere : (n i : ℕ) (s : PageState) → Holds P n i s → s.frame ≡ f → ⊥
 
-no_held : {A : Type 0} {s : PageState} → Empty ≡ Held s → A
+no_held : {A : Type 0} {s : PageState} → None ≡ Some s → A
 no_held h = absurd (held_not h refl)
 
 module _ {N P P' U : List ℕ} {c r : ℕ} where
   -- the entry at (c, r) is taken out
-  pub taken_out : {s : PageState} → Entries N P U → Holds P c r s → Wrote P P' c r Empty → Loose N P' U s.frame
+  pub taken_out : {s : PageState} → Entries N P U → Holds P c r s → Wrote P P' c r None → Loose N P' U s.frame
   taken_out {s} e h w =
       record {
         rows = rows_wrote w N (length U) (rows_of e) (λ t q. no_held q);
@@ -127,14 +126,14 @@ module _ {N P P' U : List ℕ} {c r : ℕ} where
         nowhere = λ n i t g q. either w n i t g (λ a b z. no_held z) (λ ne k. let z = e.once n i c r t s k h q in ne z.0 z.1);
       }
     where
-      frame_is : (t : PageState) → Held t ≡ Held s → t.frame ≡ s.frame
+      frame_is : (t : PageState) → Some t ≡ Some s → t.frame ≡ s.frame
       frame_is t q = rw (held_one q)
 
       back : (n i : ℕ) (t : PageState) → Holds P' n i t → Holds P n i t
       back n i t g = either w n i t g (λ a b q. no_held q) (λ ne k. k)
 
   -- frame f comes to stand at (c, r)
-  pub put_in : {f : ℕ} → Loose N P U f → slot_at P c r ≡ Empty → r < (node_of N c).size → Wrote P P' c r (Held (new_state f)) → Entries N P' U
+  pub put_in : {f : ℕ} → Loose N P U f → slot_at P c r ≡ None → r < (node_of N c).size → Wrote P P' c r (Some (new_state f)) → Entries N P' U
   put_in {f} e z l w =
       let rows = rows_wrote w N (length U) e.rows (λ t q. fits t (held_one q)) in
       record {

@@ -1,11 +1,11 @@
 -- A node that serves its entry keeps a pool sound, in every mode. Assumes nothing.
+use Rattle.std.specs.Prelude.{Some, Ok as Gave}
 use mathlib.Core.Path.{◌≡◌, refl, ◌∙◌}
 use mathlib.Core.Bool.{Bool, true}
 use Prim.Native.Nat.{ℕ, ◌<◌}
 use native.Mathlib.Omega.{arith}
 use lib.ListN.{length-set}
 use borrow.Author.Tests.{eqb-true}
-use Rattle.logic.specs.declared.Found.TheVariants.{At}
 use Rattle.entry.specs.declared.PageState.{PageState}
 use Rattle.entry.specs.Entry.{tagged_of}
 use Rattle.node.specs.Node.{side_of}
@@ -40,7 +40,7 @@ module _ (m : Mode) (B : Base m.nodes) (F : ℕ) where
     low : p.page < (node_at m p).size
     low = o.entries.below p.node p.page e x
 
-    moved : (t : Told) (u : Bool) → Hidden m.nodes p.node → Sounds w p (looking_of (CopyOnWrite e.frame u) (out_at p (with_told w t)))
+    moved : (t : Told) (u : Bool) → Hidden m.nodes p.node → Sounds w p (looking_of (Gave (CopyOnWrite e.frame u)) (out_at p (with_told w t)))
     moved t u h =
         let y = wrote_none w.pages p.node p.page (page_low m.nodes B p.node p.page low) (node_low m.nodes B p.node p.page low) o.pages in
         record {
@@ -48,7 +48,7 @@ module _ (m : Mode) (B : Base m.nodes) (F : ℕ) where
           keeps = (h, record { few = o.few; pages = y.size ∙ o.pages; used = o.used; memory = o.memory; loose = taken_out o.entries x y });
         }
 
-    copied : (t : Told) (g : ℕ) → Hidden m.nodes p.node → free_frame_in w.used ≡ At g → Sounds w p (looking_of (CopyOnWrite g true) (copy_at m p e g (with_told w t)))
+    copied : (t : Told) (g : ℕ) → Hidden m.nodes p.node → free_frame_in w.used ≡ Some g → Sounds w p (looking_of (Gave (CopyOnWrite g true)) (copy_at m p e g (with_told w t)))
     copied t g h f =
         let idle = free_idle w.used g f in
         let k = idle.below in

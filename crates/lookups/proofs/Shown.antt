@@ -1,4 +1,5 @@
 -- A leaf's page is read from the entry that the walk ends at, whatever moves on the way. Assumes nothing.
+use Rattle.std.specs.Prelude.{Ok}
 use mathlib.Core.Path.{◌≡◌, refl}
 use mathlib.Core.Bool.{true, false}
 use Prim.Native.Nat.{ℕ, zero, suc}
@@ -19,8 +20,8 @@ use Rattle.lookup.proofs.Ways.Walks.{stands, climbs}
 
 -- frame f is shared, or a hidden node hands it down
 data Carries (m : Mode) (p : Place) (f : ℕ) (r : Looking) : Type 0 where
-  shares : (v : Work) → r ≡ looking_of (Ref f) v → Carries m p f r
-  hands : (v : Work) → hidden_of (node_at m p) ≡ true → r ≡ looking_of (CopyOnWrite f false) v → Carries m p f r
+  shares : (v : Work) → r ≡ looking_of (Ok (Ref f)) v → Carries m p f r
+  hands : (v : Work) → hidden_of (node_at m p) ≡ true → r ≡ looking_of (Ok (CopyOnWrite f false)) v → Carries m p f r
 
 module _ (m : Mode) where
   serve_carries : (p : Place) (s : PageState) (w : Work) (r : Looking) → Serves m false p s false w r → Carries m p s.frame r
@@ -41,10 +42,10 @@ module _ (m : Mode) where
   descent_carries w s zero p (stands x e) = serve_carries p x w _ (serves m false p x false w)
   descent_carries w s (suc d) p (climbs e a y) = pass_carries p s.frame _ (descent_carries w s d (up m p) y)
 
-  leaf_shares : (p : Place) (f : ℕ) (r : Looking) → hidden_of (node_at m p) ≡ false → Carries m p f r → (v : Work) × (r ≡ looking_of (Ref f) v)
+  leaf_shares : (p : Place) (f : ℕ) (r : Looking) → hidden_of (node_at m p) ≡ false → Carries m p f r → (v : Work) × (r ≡ looking_of (Ok (Ref f)) v)
   leaf_shares p f r leaf (shares v e) = (v, e)
   leaf_shares p f r leaf (hands v h e) = true_not h leaf
 
   -- in every mode and on all tables
-  pub read_shares : (w : Work) (s : PageState) (d : ℕ) (p : Place) → hidden_of (node_at m p) ≡ false → Walks m w.pages d p (Has s) → (v : Work) × (along m false w p (way d (Has s)) ≡ looking_of (Ref s.frame) v)
+  pub read_shares : (w : Work) (s : PageState) (d : ℕ) (p : Place) → hidden_of (node_at m p) ≡ false → Walks m w.pages d p (Has s) → (v : Work) × (along m false w p (way d (Has s)) ≡ looking_of (Ok (Ref s.frame)) v)
   read_shares w s d p leaf y = leaf_shares p s.frame _ leaf (descent_carries w s d p y)

@@ -1,4 +1,5 @@
 -- Page lookup keeps a pool sound, in every mode that asks only below a hidden node's size. Assumes nothing.
+use Rattle.std.specs.Prelude.{Some, None, Err, Ok as Gave}
 use mathlib.Core.Path.{◌≡◌, refl, ◌∙◌}
 use mathlib.Core.Bool.{Bool, true, false}
 use mathlib.Core.List.{List}
@@ -6,15 +7,13 @@ use Prim.Native.Nat.{ℕ, ◌<◌}
 use native.Mathlib.Omega.{arith}
 use lib.ListN.{set, length-set}
 use borrow.Author.Tests.{eqb-true, eq-eqb}
-use Rattle.logic.specs.declared.Found.TheVariants.{At}
-use Rattle.entry.specs.declared.Slot.TheVariants.{Empty}
 use Rattle.entry.specs.Entry.{new_state}
 use Rattle.node.specs.Node.{hidden_of, leaf_of}
 use Rattle.tables.specs.Tables.{node_of, slot_at}
 use Rattle.frames.specs.Frames.{free_frame_in}
-use Rattle.lookup.specs.declared.CommitResult.{CommitResult}
-use Rattle.lookup.specs.declared.CommitResult.TheVariants.{Ref, Zero, CopyOnWrite, NewPage, NoMemory, Stopped}
-use Rattle.lookup.specs.Work.{Work, Looking, looking_of}
+use Rattle.lookup.specs.Work.{Looked, Work, Looking, looking_of}
+use Rattle.lookup.specs.declared.CommitResult.TheVariants.{Ref, Zero, CopyOnWrite, NewPage}
+use Rattle.lookup.specs.declared.LookupError.TheVariants.{NoMemory, Stopped}
 use Rattle.lookup.specs.Lookup.{look}
 use Rattle.sound.specs.Facts.{Hidden, Leaf}
 use Rattle.logic.proofs.Laws.{true_not}
@@ -37,13 +36,13 @@ use Rattle.lookup.proofs.Looks.Looks.{has, zeros, short, stops, clears, fills, q
 
 module _ (m : Mode) (B : Base m.nodes) (F : ℕ) where
   -- an answer that ends the lookup is the node's too
-  final_keeps : (n h : ℕ) (write : Bool) (r : CommitResult) (v : Work) → Final m write r → Keeps m.nodes B m.bytes F h r v → Keeps m.nodes B m.bytes F n r v
-  final_keeps n h write (Ref f) v z k = k
-  final_keeps n h write Zero v z k = k
-  final_keeps n h write NoMemory v z k = k
-  final_keeps n h write Stopped v z k = k
-  final_keeps n h write (CopyOnWrite f u) v z k = absurd z
-  final_keeps n h write (NewPage f) v z k = absurd z
+  final_keeps : (n h : ℕ) (write : Bool) (r : Looked) (v : Work) → Final m write r → Keeps m.nodes B m.bytes F h r v → Keeps m.nodes B m.bytes F n r v
+  final_keeps n h write (Gave (Ref f)) v z k = k
+  final_keeps n h write (Gave Zero) v z k = k
+  final_keeps n h write (Err NoMemory) v z k = k
+  final_keeps n h write (Err Stopped) v z k = k
+  final_keeps n h write (Gave (CopyOnWrite f u)) v z k = absurd z
+  final_keeps n h write (Gave (NewPage f)) v z k = absurd z
 
   module _ (inside : (p : Place) → hidden_of (node_at m p) ≡ true → asks m p ≡ true → p.page < (node_at m p).size) (write : Bool) (w : Work) (o : Fine m B F w) where
     abbrev Low : Place → Type 0
@@ -68,7 +67,7 @@ module _ (m : Mode) (B : Base m.nodes) (F : ℕ) where
     under p k = let q = deeper m.nodes B p.node (up m p).node (asked_up m p k) in omega arith
 
     -- the lowest free frame, cleared
-    module _ (g : ℕ) (f : free_frame_in w.used ≡ At g) where
+    module _ (g : ℕ) (f : free_frame_in w.used ≡ Some g) where
       fresh_hand : Hand m.nodes B m.bytes F (cleared m.bytes w g) g
       unfolding cleared
       fresh_hand =
@@ -98,7 +97,7 @@ module _ (m : Mode) (B : Base m.nodes) (F : ℕ) where
 
     -- a frame that came is kept at p
     module _ (p : Place) (low : p.page < (node_at m p).size) (f : ℕ) (v : Work) (h : Hand m.nodes B m.bytes F v f) where
-      lands_fine : slot_in v p ≡ Empty → Fine m B F (kept_at v p f)
+      lands_fine : slot_in v p ≡ None → Fine m B F (kept_at v p f)
       lands_fine z = keep_ok m.nodes B m.bytes F p.node p.page low v f h z
 
       lands_still : (a b : ℕ) → depth m.nodes B p.node < depth m.nodes B a → slot_at (kept_at v p f).pages a b ≡ slot_at v.pages a b
@@ -118,17 +117,17 @@ module _ (m : Mode) (B : Base m.nodes) (F : ℕ) where
         let q = looks-sound (up m p) r (up_low p a.on) x in
         record { still = λ c b l. q.still c b (above p a.on c l); keeps = final_keeps p.node (up m p).node write r.answer r.work z q.keeps }
     looks-sound p r low (falls f v a x h e) =
-        let q = looks-sound (up m p) (looking_of (NewPage f) v) (up_low p a.on) x in
+        let q = looks-sound (up m p) (looking_of (Gave (NewPage f)) v) (up_low p a.on) x in
         rw e (record { still = λ c b l. q.still c b (above p a.on c l); keeps = (eqb-true (node_at m p).kind 3 h, q.keeps.1) })
     looks-sound p r low (lands f v a x h e) =
-        let q = looks-sound (up m p) (looking_of (NewPage f) v) (up_low p a.on) x in
+        let q = looks-sound (up m p) (looking_of (Gave (NewPage f)) v) (up_low p a.on) x in
         rw e
         (record {
           still = λ c b l. lands_still p (low h) f v q.keeps.1 c b l ∙ q.still c b (above p a.on c l);
           keeps = lands_fine p (low h) f v q.keeps.1 (q.still p.node p.page (under p a.on) ∙ a.empty);
         })
     looks-sound p r low (takes f u v a x y) =
-        let q = looks-sound (up m p) (looking_of (CopyOnWrite f u) v) (up_low p a.on) x in
+        let q = looks-sound (up m p) (looking_of (Gave (CopyOnWrite f u)) v) (up_low p a.on) x in
         let i = asked_low_by p low a.on in
         let o = lands_fine p i f v q.keeps.1 (q.still p.node p.page (under p a.on) ∙ a.empty) in
         let k = serves_sound m B F p (new_state f) (kept_at v p f) o (keep_holds m.nodes B m.bytes F p.node p.page i v f q.keeps.1) y in
@@ -140,13 +139,13 @@ module _ (N : List ℕ) (B : Base N) (M : List ℕ) (L F : ℕ) where
   unfolding asks
   inside_today p h a = asked_low N B p.node p.page (eqb-true (node_of N p.node).kind 3 h) a
 
-  pub leaf_by : (n : ℕ) → (Hidden N n → ⊥) → (z : CommitResult) (w : Work) → Keeps N B L F n z w → Ok N L F w
-  leaf_by n never (Ref f) w k = k
-  leaf_by n never Zero w k = k
-  leaf_by n never NoMemory w k = k
-  leaf_by n never Stopped w k = k
-  leaf_by n never (CopyOnWrite f u) w k = absurd (never k.0)
-  leaf_by n never (NewPage f) w k = absurd (never k.0)
+  pub leaf_by : (n : ℕ) → (Hidden N n → ⊥) → (z : Looked) (w : Work) → Keeps N B L F n z w → Ok N L F w
+  leaf_by n never (Gave (Ref f)) w k = k
+  leaf_by n never (Gave Zero) w k = k
+  leaf_by n never (Err NoMemory) w k = k
+  leaf_by n never (Err Stopped) w k = k
+  leaf_by n never (Gave (CopyOnWrite f u)) w k = absurd (never k.0)
+  leaf_by n never (Gave (NewPage f)) w k = absurd (never k.0)
 
   pub look_ok : (s : Work) → Ok N L F s → (write : Bool) (k n i asker : ℕ) → Leaf N n → i < (node_of N n).size → Ok N L F (look L k N M s n i write asker).work
   look_ok s o write k n i asker leaf low =

@@ -1,4 +1,5 @@
 -- Entries and where they stand. Assumes nothing.
+use Rattle.std.specs.Prelude.{Option, None, Some}
 use mathlib.Core.Path.{◌≡◌, refl}
 use mathlib.Core.Bool.{Bool, true, false}
 use Prim.Native.Nat.{ℕ}
@@ -6,13 +7,11 @@ use native.Mathlib.Omega.{arith}
 use lib.Dec.{eqb}
 use borrow.Author.Tests.{eqb-true, eqb-false}
 use Rattle.entry.specs.declared.PageState.{PageState}
-use Rattle.entry.specs.declared.Slot.{Slot}
-use Rattle.entry.specs.declared.Slot.TheVariants.{Empty, Held}
 
-pub held_one : {s t : PageState} → Held s ≡ Held t → s ≡ t
+pub held_one : {s t : PageState} → Some s ≡ Some t → s ≡ t
 held_one h = cc
 
-pub held_not : {s : PageState} {y : Slot} → y ≡ Held s → y ≡ Empty → ⊥
+pub held_not : {s : PageState} {y : Option PageState} → y ≡ Some s → y ≡ None → ⊥
 held_not h k = let z : ◌≡◌ {A = ℕ} 0 1 = cc in omega arith
 
 -- two spots of the table of entries: the same, or not

@@ -1,4 +1,5 @@
 -- The table of page entries after one entry was written. Assumes nothing.
+use Rattle.std.specs.Prelude.{Option, None, Some}
 use mathlib.Core.Path.{◌≡◌, refl, ap, ◌∙◌}
 use mathlib.Core.Bool.{Bool, true, false}
 use mathlib.Core.List.{List}
@@ -12,8 +13,6 @@ use Rattle.logic.specs.Pick.{pick}
 use Rattle.entry.specs.declared.PageState.{PageState}
 use Rattle.entry.specs.declared.PageStateTag.{PageStateTag}
 use Rattle.entry.specs.declared.PageStateTag.TheVariants.{Owned, LeftSplit, RightSplit}
-use Rattle.entry.specs.declared.Slot.{Slot}
-use Rattle.entry.specs.declared.Slot.TheVariants.{Empty, Held}
 use Rattle.entry.specs.Entry.{tag_number, tag_of, state_of, slot_of, entry_word}
 use Rattle.tables.specs.Tables.{entry_of, slot_at, with_entry, with_state, without_state}
 use Rattle.soundness.proofs.Slots.{tag_most}
@@ -38,26 +37,26 @@ word_parts f t p x y z =
 state_is : (s : PageState) (f p : ℕ) (t : PageStateTag) → f ≡ s.frame → t ≡ s.tag → p ≡ s.pin_count → ◌≡◌ {A = PageState} (record { frame = f; tag = t; pin_count = p }) s
 state_is s f p t x y z = rw (x, y, z)
 
-slot_back : (s : PageState) → s.frame < 4095 → s.pin_count < 32 → slot_of (entry_word s) ≡ Held s
+slot_back : (s : PageState) → s.frame < 4095 → s.pin_count < 32 → slot_of (entry_word s) ≡ Some s
 unfolding slot_of state_of entry_word
 slot_back s l m =
     let q = word_parts s.frame (tag_number s.tag) s.pin_count l (tag_most s.tag) m in
     rw (ne_eqb ((s.frame % 4095 + 1 + 4096 * tag_number s.tag + 16384 * (s.pin_count % 32)) % 4096) 0 (λ z. omega arith))
-    (ap Held (state_is s _ _ _ (omega arith) (rw q.1 (tag_back s.tag)) q.2))
+    (ap Some (state_is s _ _ _ (omega arith) (rw q.1 (tag_back s.tag)) q.2))
 
 -- what was written at (c, r) is read there, and all else as before
 
-abbrev pub word_for : Slot → ℕ
-word_for Empty = 0
-word_for (Held s) = entry_word s
+abbrev pub word_for : Option PageState → ℕ
+word_for None = 0
+word_for (Some s) = entry_word s
 
-pub record Wrote (P P' : List ℕ) (c r : ℕ) (y : Slot) : Type 0 where
+pub record Wrote (P P' : List ℕ) (c r : ℕ) (y : Option PageState) : Type 0 where
   pub size : length P' ≡ length P
   pub word : entry_of P' c r ≡ word_for y
   pub same : slot_at P' c r ≡ y
   pub words : (a b : ℕ) → (a ≡ c → b ≡ r → ⊥) → entry_of P' a b ≡ entry_of P a b
 
-pub others : {P P' : List ℕ} {c r : ℕ} {y : Slot} → Wrote P P' c r y → (a b : ℕ) → (a ≡ c → b ≡ r → ⊥) → slot_at P' a b ≡ slot_at P a b
+pub others : {P P' : List ℕ} {c r : ℕ} {y : Option PageState} → Wrote P P' c r y → (a b : ℕ) → (a ≡ c → b ≡ r → ⊥) → slot_at P' a b ≡ slot_at P a b
 unfolding slot_at
 others w a b ne = ap slot_of (w.words a b ne)
 
@@ -82,13 +81,13 @@ module _ (P : List ℕ) (c r : ℕ) (page : r < 64) where
   word_length v = rw (lt-ltb r 64 page) (length-set P (c * 64 + r) v)
 
   module _ (node : c < 64) (len : length P ≡ 4096) where
-    pub wrote_state : (s : PageState) → s.frame < 4095 → s.pin_count < 32 → Wrote P (with_state P c r s) c r (Held s)
+    pub wrote_state : (s : PageState) → s.frame < 4095 → s.pin_count < 32 → Wrote P (with_state P c r s) c r (Some s)
     unfolding with_state slot_at
     wrote_state s f n =
         let w = word_same (entry_word s) (omega arith) in
         record { size = word_length (entry_word s); word = w; same = ap slot_of w ∙ slot_back s f n; words = words_other (entry_word s) }
 
-    pub wrote_none : Wrote P (without_state P c r) c r Empty
+    pub wrote_none : Wrote P (without_state P c r) c r None
     unfolding without_state slot_at slot_of
     wrote_none =
         let w = word_same 0 (omega arith) in

@@ -1,16 +1,16 @@
 -- A lookup for writing takes exactly the frames that the walk counts, whatever the entries, the flags and the mode. Assumes nothing.
+use Rattle.std.specs.Prelude.{Option, ℕ, Some, None, Err, Ok}
 use mathlib.Core.Path.{◌≡◌, refl}
 use mathlib.Core.Bool.{Bool, true, false, ◌&&◌, not}
 use Prim.Native.Nat.{ℕ, zero, suc, ◌+◌, ◌<◌}
 use native.Mathlib.Omega.{arith}
-use Rattle.logic.specs.declared.Found.{Found}
-use Rattle.logic.specs.declared.Found.TheVariants.{At, Nothing}
 use Rattle.logic.proofs.Laws.{true_not}
 use Rattle.entry.specs.declared.PageState.{PageState}
 use Rattle.entry.specs.Entry.{split_of, new_state}
 use Rattle.node.specs.Node.{hidden_of, side_of}
 use Rattle.frames.specs.Frames.{free_count, free_frame_in}
-use Rattle.lookup.specs.declared.CommitResult.TheVariants.{CopyOnWrite, NewPage, NoMemory, Stopped}
+use Rattle.lookup.specs.declared.CommitResult.TheVariants.{CopyOnWrite, NewPage}
+use Rattle.lookup.specs.declared.LookupError.TheVariants.{NoMemory, Stopped}
 use Rattle.lookup.specs.declared.Place.{Place}
 use Rattle.lookup.specs.declared.End.{End}
 use Rattle.lookup.specs.declared.End.TheVariants.{Has, Bare, Tired}
@@ -33,14 +33,14 @@ pub record Footing (m : Mode) : Type 0 where
 
 -- what a hidden node answers its child where there is an entry above: n frames were taken
 data Owes (n : ℕ) (w : Work) (r : Looking) : Type 0 where
-  hands : (f : ℕ) (u : Bool) (v : Work) → r ≡ looking_of (CopyOnWrite f u) v → free_count w.used ≡ free_count v.used + n → Owes n w r
-  lacking : (v : Work) → r ≡ looking_of NoMemory v → free_count w.used < n → free_count v.used ≡ 0 → Owes n w r
+  hands : (f : ℕ) (u : Bool) (v : Work) → r ≡ looking_of (Ok (CopyOnWrite f u)) v → free_count w.used ≡ free_count v.used + n → Owes n w r
+  lacking : (v : Work) → r ≡ looking_of (Err NoMemory) v → free_count w.used < n → free_count v.used ≡ 0 → Owes n w r
 
 -- and where there is none
 data Brings (w : Work) (r : Looking) : Type 0 where
-  clears : (f : ℕ) (v : Work) → r ≡ looking_of (NewPage f) v → free_count w.used ≡ free_count v.used + 1 → Brings w r
-  lacking : (v : Work) → r ≡ looking_of NoMemory v → free_count w.used < 1 → free_count v.used ≡ 0 → Brings w r
-  stopping : (v : Work) → r ≡ looking_of Stopped v → free_count v.used ≡ free_count w.used → Brings w r
+  clears : (f : ℕ) (v : Work) → r ≡ looking_of (Ok (NewPage f)) v → free_count w.used ≡ free_count v.used + 1 → Brings w r
+  lacking : (v : Work) → r ≡ looking_of (Err NoMemory) v → free_count w.used < 1 → free_count v.used ≡ 0 → Brings w r
+  stopping : (v : Work) → r ≡ looking_of (Err Stopped) v → free_count v.used ≡ free_count w.used → Brings w r
 
 and_true : (b : Bool) → one_if (b && true) ≡ one_if b
 and_true true = refl
@@ -81,11 +81,11 @@ module _ (m : Mode) (F : Footing m) where
 
   -- a hidden node that asks no parent, and the nodes below it
 
-  fresh_brings : (w : Work) (p : Place) (y : Found) (halts : Bool) → free_frame_in w.used ≡ y → Brings w (fresh_by m.bytes y w p true halts)
+  fresh_brings : (w : Work) (p : Place) (y : Option ℕ) (halts : Bool) → free_frame_in w.used ≡ y → Brings w (fresh_by m.bytes y w p true halts)
   unfolding fresh_by cleared
-  fresh_brings w p Nothing halts f = let z = none_free w.used f in lacking _ refl (omega arith) z
-  fresh_brings w p (At g) true f = stopping _ refl (back_free w.used g f)
-  fresh_brings w p (At g) false f = clears _ _ refl (one_less w.used g f)
+  fresh_brings w p None halts f = let z = none_free w.used f in lacking _ refl (omega arith) z
+  fresh_brings w p (Some g) true f = stopping _ refl (back_free w.used g f)
+  fresh_brings w p (Some g) false f = clears _ _ refl (one_less w.used g f)
 
   pass_brings : (p : Place) (w : Work) (r : Looking) → hidden_of (node_at m p) ≡ true → Brings w r → Brings w (pass m true p r)
   unfolding pass_by
@@ -119,11 +119,11 @@ module _ (m : Mode) (F : Footing m) where
     brought_pays r (lacking v e l o) = rw e (refuses v refl l o)
     brought_pays r (stopping v e l) = rw e (stops v refl l)
 
-    fresh_pays : (y : Found) (halts : Bool) → free_frame_in w.used ≡ y → Pays 1 w (fresh_by m.bytes y w p false halts)
+    fresh_pays : (y : Option ℕ) (halts : Bool) → free_frame_in w.used ≡ y → Pays 1 w (fresh_by m.bytes y w p false halts)
     unfolding fresh_by cleared
-    fresh_pays Nothing halts f = let z = none_free w.used f in refuses _ refl (omega arith) z
-    fresh_pays (At g) true f = gives _ _ refl (one_less w.used g f)
-    fresh_pays (At g) false f = gives _ _ refl (one_less w.used g f)
+    fresh_pays None halts f = let z = none_free w.used f in refuses _ refl (omega arith) z
+    fresh_pays (Some g) true f = gives _ _ refl (one_less w.used g f)
+    fresh_pays (Some g) false f = gives _ _ refl (one_less w.used g f)
 
     walk_pays : (d : ℕ) (x : End) → Walks m w.pages d p x → Pays (price_of m p d x) w (along m true w p (way d x))
     unfolding descent ups top fresh_in price_of
@@ -132,7 +132,7 @@ module _ (m : Mode) (F : Footing m) where
     walk_pays zero x (tires e a) = stops w refl refl
     walk_pays (suc d) (Has s) (climbs e a y) = owed_pays (due_of m s d (up m p)) _ (descent_owes w d (up m p) s (up_sided p a) y)
     walk_pays (suc d) Bare (climbs e a y) = brought_pays _ (descent_brings w d (up m p) (F.hidden p a) y)
-    walk_pays (suc d) Tired (climbs e a y) = stops w (descent_final m true (suc d) p Stopped w tt) refl
+    walk_pays (suc d) Tired (climbs e a y) = stops w (descent_final m true (suc d) p (Err Stopped) w tt) refl
 
     pub write_pays : Pays (need_in m w.pages p) w (lookup m 64 true w p)
     unfolding need_in

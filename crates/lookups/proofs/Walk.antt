@@ -1,5 +1,6 @@
 -- What the walk alone tells of a lookup: where nothing moves there is no descent, steps to spare change nothing, and a chain that ends in time
 -- tires no walk. Assumes nothing.
+use Rattle.std.specs.Prelude.{Option, None, Some, Err, Ok}
 use mathlib.Core.Path.{◌≡◌, refl, sym, ap, ◌∙◌}
 use mathlib.Core.Bool.{Bool, true, false, ◌&&◌, ◌||◌, not}
 use mathlib.Core.List.{List}
@@ -9,12 +10,11 @@ use lib.Dec.{eqb}
 use borrow.Author.Tests.{eqb-false, not-true}
 use Rattle.logic.proofs.Laws.{and_left}
 use Rattle.entry.specs.declared.PageState.{PageState}
-use Rattle.entry.specs.declared.Slot.{Slot}
-use Rattle.entry.specs.declared.Slot.TheVariants.{Empty, Held}
 use Rattle.entry.specs.Entry.{split_of}
 use Rattle.node.specs.Node.{hidden_of, side_of}
 use Rattle.tables.specs.Tables.{slot_at}
-use Rattle.lookup.specs.declared.CommitResult.TheVariants.{Ref, Zero, Stopped}
+use Rattle.lookup.specs.declared.CommitResult.TheVariants.{Ref, Zero}
+use Rattle.lookup.specs.declared.LookupError.TheVariants.{Stopped}
 use Rattle.lookup.specs.Work.{Work, looking_of}
 use Rattle.tables.specs.Pool.{Pool}
 use Rattle.sound.specs.Facts.{Sound}
@@ -35,7 +35,7 @@ abbrev pub moves_at : Mode → Bool → Place → PageState → Bool
 moves_at m write p s = hidden_of (node_at m p) && (not (both_at m p) || split_of s.tag || (write && split_of (side_of (node_at m p) p.asker).tag))
 
 module _ (m : Mode) (write : Bool) (w : Work) where
-  stays_by : (p : Place) (s : PageState) (h b t k : Bool) → hidden_of (node_at m p) ≡ h → both_at m p ≡ b → split_of s.tag ≡ t → (write && split_of (side_of (node_at m p) p.asker).tag) ≡ k → (h && (not b || t || k)) ≡ false → serve m write p s false w ≡ looking_of (Ref s.frame) w
+  stays_by : (p : Place) (s : PageState) (h b t k : Bool) → hidden_of (node_at m p) ≡ h → both_at m p ≡ b → split_of s.tag ≡ t → (write && split_of (side_of (node_at m p) p.asker).tag) ≡ k → (h && (not b || t || k)) ≡ false → serve m write p s false w ≡ looking_of (Ok (Ref s.frame)) w
   unfolding serve share_in child_told leaf_told
   stays_by p s false b t k h _ _ _ e = rw h
   stays_by p s true true false false h b t k e = rw (h, b, t, k)
@@ -44,26 +44,26 @@ module _ (m : Mode) (write : Bool) (w : Work) where
   stays_by p s true true false true h _ _ _ e = (true_not refl e)
 
   module _ (k d : ℕ) (p : Place) where
-    pub finds_shared : (s : PageState) → walk m k w.pages p ≡ way d (Has s) → moves_at m write (ups m d p) s ≡ false → lookup m k write w p ≡ looking_of (Ref s.frame) w
+    pub finds_shared : (s : PageState) → walk m k w.pages p ≡ way d (Has s) → moves_at m write (ups m d p) s ≡ false → lookup m k write w p ≡ looking_of (Ok (Ref s.frame)) w
     unfolding top
     finds_shared s e n =
-        rw (e, stays_by (ups m d p) s _ _ _ _ refl refl refl refl n) (descent_final m write d p (Ref s.frame) w tt)
+        rw (e, stays_by (ups m d p) s _ _ _ _ refl refl refl refl n) (descent_final m write d p (Ok (Ref s.frame)) w tt)
 
-    pub finds_zeros : walk m k w.pages p ≡ way d Bare → write ≡ false → lookup m k write w p ≡ looking_of Zero w
+    pub finds_zeros : walk m k w.pages p ≡ way d Bare → write ≡ false → lookup m k write w p ≡ looking_of (Ok Zero) w
     unfolding top fresh_in
-    finds_zeros e n = rw (e, n) (descent_final m false d p Zero w tt)
+    finds_zeros e n = rw (e, n) (descent_final m false d p (Ok Zero) w tt)
 
-    pub finds_none : walk m k w.pages p ≡ way d Tired → lookup m k write w p ≡ looking_of Stopped w
+    pub finds_none : walk m k w.pages p ≡ way d Tired → lookup m k write w p ≡ looking_of (Err Stopped) w
     unfolding top
-    finds_none e = rw e (descent_final m write d p Stopped w tt)
+    finds_none e = rw e (descent_final m write d p (Err Stopped) w tt)
 
 -- a walk that wasn't tired is the same with more steps
 
 module _ (m : Mode) (P : List ℕ) where
-  spare_by : (s : Slot) (a : Bool) (x y : Way) → ((y.end ≡ Tired → ⊥) → x ≡ y) → ((walk_by s a y).end ≡ Tired → ⊥) → walk_by s a x ≡ walk_by s a y
-  spare_by (Held s) a x y h n = refl
-  spare_by Empty true x y h n = h n
-  spare_by Empty false x y h n = refl
+  spare_by : (s : Option PageState) (a : Bool) (x y : Way) → ((y.end ≡ Tired → ⊥) → x ≡ y) → ((walk_by s a y).end ≡ Tired → ⊥) → walk_by s a x ≡ walk_by s a y
+  spare_by (Some s) a x y h n = refl
+  spare_by None true x y h n = h n
+  spare_by None false x y h n = refl
 
   pub walk_spare : (k j : ℕ) (p : Place) → ((walk m k P p).end ≡ Tired → ⊥) → walk m (k + j) P p ≡ walk m k P p
   unfolding walk
@@ -86,10 +86,10 @@ asked_up m p a =
 
 -- a walk isn't tired where the chain ends in time
 
-tired_by : (s : Slot) (a : Bool) (y : Way) → (a ≡ true → y.end ≡ Tired → ⊥) → (walk_by s a y).end ≡ Tired → ⊥
-tired_by (Held s) a y h e = let z : ◌≡◌ {A = ℕ} 0 1 = cc in omega arith
-tired_by Empty true y h e = h refl e
-tired_by Empty false y h e = let z : ◌≡◌ {A = ℕ} 0 1 = cc in omega arith
+tired_by : (s : Option PageState) (a : Bool) (y : Way) → (a ≡ true → y.end ≡ Tired → ⊥) → (walk_by s a y).end ≡ Tired → ⊥
+tired_by (Some s) a y h e = let z : ◌≡◌ {A = ℕ} 0 1 = cc in omega arith
+tired_by None true y h e = h refl e
+tired_by None false y h e = let z : ◌≡◌ {A = ℕ} 0 1 = cc in omega arith
 
 module _ (m : Mode) (s : Short m.nodes) (P : List ℕ) where
   pub walk_ends : (k : ℕ) (p : Place) → above m.nodes (suc k) (p.node + 1) ≡ 0 → (walk m k P p).end ≡ Tired → ⊥

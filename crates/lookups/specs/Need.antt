@@ -1,10 +1,11 @@
 -- How many frames a write of a page takes: a count over the walk's levels.
-use Rattle.std.specs.Prelude.{ℕ, zero, suc, ◌+◌, ◌<◌, ◌≡◌, Bool, ◌&&◌, not, List, []}
+use Rattle.std.specs.Prelude.{ℕ, zero, suc, ◌+◌, ◌<◌, ◌≡◌, Bool, ◌&&◌, not, List, [], Err, Ok}
 use Rattle.logic.specs.Pick.{pick}
 use Rattle.entry.specs.declared.PageState.{PageState}
 use Rattle.entry.specs.Entry.{split_of}
 use Rattle.frames.specs.Frames.{free_count}
-use Rattle.lookup.specs.declared.CommitResult.TheVariants.{Ref, NoMemory, Stopped}
+use Rattle.lookup.specs.declared.CommitResult.TheVariants.{Ref}
+use Rattle.lookup.specs.declared.LookupError.TheVariants.{NoMemory, Stopped}
 use Rattle.lookup.specs.declared.Place.{Place}
 use Rattle.lookup.specs.declared.End.{End}
 use Rattle.lookup.specs.declared.End.TheVariants.{Has, Bare, Tired}
@@ -38,6 +39,6 @@ need N P n i = need_in (today 0 N []) P (place_of n i n)
 
 -- a lookup for writing takes n frames, or n are more than were free, or it stops and takes none
 pub data Pays (n : ℕ) (w : Work) (r : Looking) : Type 0 where
-  gives : (f : ℕ) (v : Work) → r ≡ looking_of (Ref f) v → free_count w.used ≡ free_count v.used + n → Pays n w r
-  refuses : (v : Work) → r ≡ looking_of NoMemory v → free_count w.used < n → free_count v.used ≡ 0 → Pays n w r
-  stops : (v : Work) → r ≡ looking_of Stopped v → free_count v.used ≡ free_count w.used → Pays n w r
+  gives : (f : ℕ) (v : Work) → r ≡ looking_of (Ok (Ref f)) v → free_count w.used ≡ free_count v.used + n → Pays n w r
+  refuses : (v : Work) → r ≡ looking_of (Err NoMemory) v → free_count w.used < n → free_count v.used ≡ 0 → Pays n w r
+  stops : (v : Work) → r ≡ looking_of (Err Stopped) v → free_count v.used ≡ free_count w.used → Pays n w r

@@ -1,10 +1,7 @@
 -- The calls append_mapping and remove_mapping on a pool of pages of L bytes, refused ones too.
-use Rattle.std.specs.Prelude.{ℕ, ◌+◌, Bool, ◌&&◌, List, [], leb, ltb}
+use Rattle.std.specs.Prelude.{ℕ, ◌+◌, Bool, ◌&&◌, List, [], leb, ltb, Option, Some, None, Ok, Err}
+use Rattle.outcome.specs.Answers.{Answer}
 use Rattle.logic.specs.Pick.{pick}
-use Rattle.logic.specs.declared.Found.{Found}
-use Rattle.logic.specs.declared.Found.TheVariants.{At, Nothing}
-use Rattle.outcome.specs.declared.answer.Answer.{Answer}
-use Rattle.outcome.specs.declared.answer.Answer.TheVariants.{Done, Refused}
 use Rattle.outcome.specs.declared.answer.Refusal.TheVariants.{InvalidArgs, NoRoom}
 use Rattle.outcome.specs.Outcome.{Outcome, refused}
 use Rattle.tables.specs.Pool.{Pool, pool_of}
@@ -18,9 +15,9 @@ with_mappings p m = pool_of p.nodes p.pages p.used m p.head p.memory
 unfoldable pub shows_of : ℕ → ℕ → Bool
 shows_of first count = leb 1 count && leb (first + count) 64
 
-abbrev pub mapping_number : Found → Answer
-mapping_number (At k) = Done k
-mapping_number Nothing = Refused NoRoom
+abbrev pub mapping_number : Option ℕ → Answer
+mapping_number (Some k) = Ok k
+mapping_number None = Err NoRoom
 
 abbrev pub appended : Pool → Listed → Outcome Answer
 appended p l = saying (mapping_number l.found) (with_mappings p l.mappings)
@@ -33,7 +30,7 @@ append_mapping L p object first count = on_object L p object (refused p [] []) (
 
 -- one that isn't live, or isn't the object's, changes nothing
 unfoldable pub remove_at : Pool → ℕ → ℕ → Outcome Answer
-remove_at p n mapping = pick (ltb mapping 64) (saying (Done 0) (with_mappings p (removed p.mappings n mapping))) (saying (Done 0) p)
+remove_at p n mapping = pick (ltb mapping 64) (saying (Ok 0) (with_mappings p (removed p.mappings n mapping))) (saying (Ok 0) p)
 
 abbrev pub remove_mapping : ℕ → Pool → ℕ → ℕ → Outcome Answer
 remove_mapping L p object mapping = on_object L p object (refused p [] []) (λ n. remove_at p n mapping)

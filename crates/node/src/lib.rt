@@ -1,13 +1,13 @@
 // A node's record (paged.rs 18 to 99), by value. Windows and size are counted in pages. A link is 0 for none, else a node's number + 1.
 
-#![tactic(auto)]
+#![tactic(auto, unfolding(crate::specs::Node::cached_of, crate::specs::Node::contains_of, crate::specs::Node::out_of, crate::specs::Node::side_of))]
 
-ghost use Rattle.std.specs.Prelude.{◌≡◌, true, ◌+◌, ◌≤◌, ◌<◌, min};
+ghost use Rattle.std.specs.Prelude.{◌≡◌, true, ◌+◌, ◌≤◌, ◌<◌};
 ghost use Rattle.node.specs.Node.{byte_limit, free_node, origin_node, hidden_of, leaf_of, cached_of, contains_of, window_of, out_of, side_of, snapshot_node, hidden_node, below_node, relinked_node};
 
 use entry::PageStateTag;
 
-#[derive(Clone, Copy)]
+#[derive(Clone, Copy, Debug, PartialEq, Eq)]
 pub struct Node {
     pub kind: u32,
     pub parent: u32,
@@ -22,23 +22,13 @@ pub struct Node {
 }
 
 // How a child is tagged, and the link to the other child.
-#[derive(Clone, Copy)]
+#[derive(Clone, Copy, Debug, PartialEq, Eq)]
 pub struct Side {
     pub tag: PageStateTag,
     pub other: u32,
 }
 
-// Where a window over so many pages from first on ends, no later than the size.
-fn window_end(first: u32, pages: u32, size: u32) -> u32
-    ensures { result ≡ min (first + pages) size }
-{
-    let end = first as u64 + pages as u64;
-    if size as u64 <= end {
-        return size;
-    }
-    end as u32
-}
-
+// A kind and a policy stay numbers: the lent table may hold any, and the sound test has to see it.
 impl Node {
     pub const FREE: u32 = 0;
 
@@ -79,15 +69,9 @@ impl Node {
     {
         Node {
             kind: Node::ORIGIN,
-            parent: Node::NONE,
-            left: Node::NONE,
-            right: Node::NONE,
-            parent_offset: 0,
-            parent_limit: 0,
             size: pages,
             owner,
-            cache_policy: 0,
-            pin_count: 0,
+            ..Node::free()
         }
     }
 
@@ -100,7 +84,7 @@ impl Node {
     pub fn is_leaf(self) -> bool
         ensures { result ≡ leaf_of self }
     {
-        (self.kind == Node::ORIGIN) | (self.kind == Node::SNAPSHOT)
+        matches!(self.kind, Node::ORIGIN | Node::SNAPSHOT)
     }
 
     pub fn is_cached(self) -> bool
@@ -114,18 +98,15 @@ impl Node {
         ensures value { result ≡ contains_of 4096 self offset len }
         ensures fits { result ≡ true → offset + len < byte_limit }
     {
-        let size = self.size as u64 * 4096;
-        if size < len {
-            return false;
-        }
-        offset <= size - len
+        let size = u64::from(self.size) * 4096;
+        len <= size && offset <= size - len
     }
 
     // The parent's page lies in this node's window.
     pub fn in_window(self, page: u64) -> bool
         ensures { result ≡ window_of self page }
     {
-        (self.parent_offset as u64 <= page) & (page < self.parent_limit as u64)
+        u64::from(self.parent_offset) <= page && page < u64::from(self.parent_limit)
     }
 
     // Lookup's out_of_range: a hidden or parentless node goes by its size, another by its window.
@@ -133,34 +114,32 @@ impl Node {
         requires { page ≤ 281474976710656 }
         ensures { result ≡ out_of self page }
     {
-        if self.is_hidden() | (self.parent == Node::NONE) {
-            return self.size as u64 <= page;
+        if self.is_hidden() || self.parent == Node::NONE {
+            u64::from(self.size) <= page
+        } else {
+            u64::from(self.parent_limit) <= u64::from(self.parent_offset) + page
         }
-        self.parent_limit as u64 <= self.parent_offset as u64 + page
     }
 
     pub fn get_tag_and_other(self, child: u32) -> Side
         ensures { result ≡ side_of self child }
     {
-        let link = child as u64 + 1;
-        if self.is_hidden() & (self.left as u64 == link) {
-            let tag = PageStateTag::LeftSplit;
-            return Side {
-                tag,
+        let link = u64::from(child) + 1;
+        if self.is_hidden() && u64::from(self.left) == link {
+            Side {
+                tag: PageStateTag::LeftSplit,
                 other: self.right,
-            };
-        }
-        if self.is_hidden() & (self.right as u64 == link) {
-            let tag = PageStateTag::RightSplit;
-            return Side {
-                tag,
+            }
+        } else if self.is_hidden() && u64::from(self.right) == link {
+            Side {
+                tag: PageStateTag::RightSplit,
                 other: self.left,
-            };
-        }
-        let tag = PageStateTag::Owned;
-        Side {
-            tag,
-            other: Node::NONE,
+            }
+        } else {
+            Side {
+                tag: PageStateTag::Owned,
+                other: Node::NONE,
+            }
         }
     }
 
@@ -172,54 +151,58 @@ impl Node {
         Node {
             kind: Node::SNAPSHOT,
             parent: hidden + 1,
-            left: Node::NONE,
-            right: Node::NONE,
             parent_offset: first,
-            parent_limit: window_end(first, pages, size),
+            parent_limit: first.saturating_add(pages).min(size),
             size: pages,
             owner,
-            cache_policy: 0,
-            pin_count: 0,
+            ..Node::free()
         }
     }
 
     // The hidden node that takes this one's place above two children.
-    pub fn hidden_above(mut self, left: u32, right: u32) -> Self
+    pub fn hidden_above(self, left: u32, right: u32) -> Self
         requires { (left < 64) × (right < 64) }
         ensures { result ≡ hidden_node self left right }
     {
-        self.kind = Node::HIDDEN;
-        self.left = left + 1;
-        self.right = right + 1;
-        self.cache_policy = 0;
-        self
+        Node {
+            kind: Node::HIDDEN,
+            left: left + 1,
+            right: right + 1,
+            cache_policy: 0,
+            ..self
+        }
     }
 
     // This node below a hidden one, with a window over all of it.
-    pub fn below(mut self, hidden: u32) -> Self
+    pub fn below(self, hidden: u32) -> Self
         requires { hidden < 64 }
         ensures { result ≡ below_node self hidden }
     {
-        self.parent = hidden + 1;
-        self.parent_offset = 0;
-        self.parent_limit = self.size;
-        self
+        Node {
+            parent: hidden + 1,
+            parent_offset: 0,
+            parent_limit: self.size,
+            ..self
+        }
     }
 
     // The link to the old child becomes one to the new.
-    pub fn relinked(mut self, old: u32, new: u32) -> Self
+    pub fn relinked(self, old: u32, new: u32) -> Self
         requires { (old < 64) × (new < 64) }
         ensures { result ≡ relinked_node self old new }
     {
-        let link = old + 1;
-        if self.left == link {
-            self.left = new + 1;
-            return self;
+        if self.left == old + 1 {
+            Node {
+                left: new + 1,
+                ..self
+            }
+        } else if self.right == old + 1 {
+            Node {
+                right: new + 1,
+                ..self
+            }
+        } else {
+            self
         }
-        if self.right == link {
-            self.right = new + 1;
-            return self;
-        }
-        self
     }
 }

@@ -1,25 +1,24 @@
 -- Notices to mappings, in pages: the list so far, with what a change of a range adds.
-use Rattle.std.specs.Prelude.{ℕ, zero, suc, ◌+◌, ◌-◌, max, min, List, eqb, ltb}
+use Rattle.std.specs.Prelude.{ℕ, zero, suc, ◌+◌, ◌-◌, max, min, List, eqb, ltb, Option, Some, None}
+use Rattle.outcome.specs.declared.notice.Notice.{Notice}
 use Rattle.logic.specs.Pick.{pick}
 use Rattle.node.specs.declared.Node.{Node}
 use Rattle.node.specs.Node.{hidden_of}
 use Rattle.tables.specs.declared.Mapping.{Mapping}
 use Rattle.tables.specs.Tables.{node_of, mapping_of}
 use Rattle.outcome.specs.Told.{Told, notice_by, put_notice}
-use Rattle.notices.specs.declared.Due.{Due}
-use Rattle.notices.specs.declared.Due.TheVariants.{Notice as Tell, Nothing}
 
 -- VmMapping::range_change, vmar.rs 1015, for the pages from lo to hi: none for an empty overlap
-unfoldable pub overlap_of : Mapping → ℕ → ℕ → ℕ → Due
+unfoldable pub overlap_of : Mapping → ℕ → ℕ → ℕ → Option Notice
 overlap_of m lo hi op =
-    pick (eqb m.number 0) Nothing
+    pick (eqb m.number 0) None
     (pick (ltb (max lo m.first) (min (m.first + m.pages) hi))
-    (Tell (notice_by (m.number - 1) (max lo m.first - m.first) (min (m.first + m.pages) hi - max lo m.first) op))
-    Nothing)
+    (Some (notice_by (m.number - 1) (max lo m.first - m.first) (min (m.first + m.pages) hi - max lo m.first) op))
+    None)
 
-abbrev pub tell_due : Told → Due → Told
-tell_due t (Tell n) = put_notice t n
-tell_due t Nothing = t
+abbrev pub tell_due : Told → Option Notice → Told
+tell_due t (Some n) = put_notice t n
+tell_due t None = t
 
 -- the mapping at place i, if it is the object's
 unfoldable pub tell_place : List ℕ → Told → ℕ → ℕ → ℕ → ℕ → ℕ → Told

@@ -2,21 +2,15 @@
 
 #![tactic(auto)]
 
-ghost use Rattle.std.specs.Prelude.{◌≡◌, max, min};
-ghost use Rattle.outcome.specs.Told.{told_of};
+ghost use Rattle.std.specs.Prelude.{◌≡◌};
+ghost use Rattle.outcome.specs.Lent.{SameList, told_at};
 ghost use Rattle.notices.specs.Notices.{overlap_of, tell_place, tell_object, child_of, range_change};
 
 use node::Node;
-use outcome::Notice;
-use tables::Mapping;
+use outcome::{Notice, Notices};
+use tables::{Mapping, Tree};
 
-#[derive(Clone, Copy)]
-pub enum Due {
-    Notice(Notice),
-    Nothing,
-}
-
-// Pages of a node from lo to hi, and what is due for them.
+// Pages of a node from lo to hi, and what is due for them: any number, as the calls below answer for all.
 #[derive(Clone, Copy)]
 pub struct Span {
     pub lo: u64,
@@ -24,127 +18,86 @@ pub struct Span {
     pub op: u32,
 }
 
-fn larger(a: u64, b: u64) -> u64
-    ensures { result ≡ max a b }
-{
-    if a < b {
-        return b;
-    }
-    a
-}
-
-fn smaller(a: u64, b: u64) -> u64
-    ensures { result ≡ min a b }
-{
-    if a < b {
-        return a;
-    }
-    b
-}
-
 // What a mapping shows of the pages.
-fn overlap(m: Mapping, span: Span) -> Due
+#[tactic(auto, using(std::proofs::lemmas::Bool::Decides::nat_tests), unfolding(crate::specs::Notices::overlap_of))]
+fn overlap(m: Mapping, span: Span) -> Option<Notice>
     ensures { result ≡ overlap_of m span.lo span.hi span.op }
 {
-    let start = larger(span.lo, m.first as u64);
-    let end = smaller(m.first as u64 + m.pages as u64, span.hi);
-    if m.number == 0 {
-        return Due::Nothing;
+    let first = m.first as u64;
+    let start = span.lo.max(first);
+    let end = (first + m.pages as u64).min(span.hi);
+    if m.number == 0 || end <= start {
+        return None;
     }
-    if start < end {
-        return Due::Notice(Notice {
-            mapping: m.number - 1,
-            first: (start - m.first as u64) as u32,
-            pages: (end - start) as u32,
-            op: span.op,
-        });
-    }
-    Due::Nothing
+    Some(Notice {
+        mapping: m.number - 1,
+        first: (start - first) as u32,
+        pages: (end - start) as u32,
+        op: span.op,
+    })
 }
 
 // The mapping at a place, if it is the object's.
-fn tell_place(
-    mappings: &[u32],
-    notices: &mut [u32],
-    count: usize,
-    place: u32,
-    object: u32,
-    span: Span,
-) -> usize
-    ensures { told_of notices.new result ≡ tell_place mappings.now (told_of notices.old count) place object span.lo span.hi span.op }
+#[tactic(auto, using(std::proofs::lemmas::Bool::Decides::nat_tests), unfolding(crate::specs::Notices::tell_place))]
+fn tell_place(mappings: &[u32], notices: &mut Notices, place: u32, object: u32, span: Span)
+    ensures same { SameList notices.old notices.new }
+    ensures value { told_at notices.new ≡ tell_place mappings.now (told_at notices.old) place object span.lo span.hi span.op }
 {
     let m = tables::mapping_at(mappings, place);
-    if m.object == object {
-        let due = overlap(m, span);
-        match due {
-            Due::Notice(n) => return outcome::put_notice(notices, count, n),
-            Due::Nothing => return count,
-        }
+    if m.object != object {
+        return;
     }
-    count
+    if let Some(notice) = overlap(m, span) {
+        notices.put(notice);
+    }
 }
 
 // An object's mappings, in list order; the blank places after the last are passed over.
-pub fn tell_object(
-    mappings: &[u32],
-    notices: &mut [u32],
-    count: usize,
-    object: u32,
-    span: Span,
-) -> usize
-    ensures { told_of notices.new result ≡ tell_object mappings.now (told_of notices.old count) 64 object span.lo span.hi span.op }
+pub fn tell_object(mappings: &[u32], notices: &mut Notices, object: u32, span: Span)
+    ensures same { SameList notices.old notices.new }
+    ensures value { told_at notices.new ≡ tell_object mappings.now (told_at notices.old) 64 object span.lo span.hi span.op }
 {
-    let places = tables::live_places(mappings);
-    let mut count = count;
-    let mut i: u32 = 0;
-    while i < places {
-        count = tell_place(mappings, notices, count, i, object, span);
-        i += 1;
+    for place in 0..tables::live_places(mappings) {
+        tell_place(mappings, notices, place, object, span);
     }
-    count
 }
 
 // The number that a link names; no table has the number that stands for none.
+#[tactic(auto, using(std::proofs::lemmas::Bool::Decides::nat_tests), unfolding(crate::specs::Notices::child_of))]
 pub fn child(link: u32) -> u32
     ensures { result ≡ child_of link }
 {
     if link == Node::NONE {
-        return 4294967295;
+        u32::MAX
+    } else {
+        link - 1
     }
-    link - 1
 }
 
 // A change of the parent's pages, for everything below the node; `left` levels may still be gone down.
-pub fn range_change(
-    nodes: &[u32],
-    mappings: &[u32],
-    notices: &mut [u32],
-    count: usize,
-    node: u32,
-    span: Span,
-    left: u32,
-) -> usize
-    ensures { told_of notices.new result ≡ range_change left nodes.now mappings.now node span.lo span.hi span.op (told_of notices.old count) }
+#[tactic(auto, using(std::proofs::lemmas::Bool::Decides::nat_tests), unfolding(crate::specs::Notices::range_change))]
+pub fn range_change(tree: Tree, notices: &mut Notices, node: u32, span: Span, left: u32)
+    ensures same { SameList notices.old notices.new }
+    ensures value { told_at notices.new ≡ range_change left tree.entry.nodes.now tree.entry.mappings.now node span.lo span.hi span.op (told_at notices.old) }
 {
     if left == 0 {
-        return count;
+        return;
     }
-    let n = tables::node_at(nodes, node);
-    let start = larger(n.parent_offset as u64, span.lo);
-    let end = smaller(n.parent_limit as u64, span.hi);
-    if start < end {
-        let own = Span {
-            lo: start - n.parent_offset as u64,
-            hi: end - n.parent_offset as u64,
-            op: span.op,
-        };
-        let told = tell_object(mappings, notices, count, node, own);
-        if n.is_hidden() {
-            let rest = left - 1;
-            let below = range_change(nodes, mappings, notices, told, child(n.left), own, rest);
-            return range_change(nodes, mappings, notices, below, child(n.right), own, rest);
-        }
-        return told;
+    let n = tables::node_at(tree.nodes, node);
+    let offset = n.parent_offset as u64;
+    let start = offset.max(span.lo);
+    let end = (n.parent_limit as u64).min(span.hi);
+    if end <= start {
+        return;
     }
-    count
+    let own = Span {
+        lo: start - offset,
+        hi: end - offset,
+        op: span.op,
+    };
+    tell_object(tree.mappings, notices, node, own);
+    if n.is_hidden() {
+        range_change(tree, notices, child(n.left), own, left - 1);
+        range_change(tree, notices, child(n.right), own, left - 1);
+    }
 }

@@ -1,29 +1,25 @@
--- The ways through a notice, and an export's numbers. Assumes nothing.
-use mathlib.Core.Path.{◌≡◌, sym, ap, ◌∙◌}
-use mathlib.Core.Bool.{Bool, true, false}
+-- What an export gives of a call, and the live mappings counted. Assumes nothing.
+use Rattle.std.specs.Prelude.{Err, Ok}
+use mathlib.Core.Path.{◌≡◌, refl, sym, ap, ◌∙◌}
+use mathlib.Core.Bool.{Bool, true, false, not}
 use mathlib.Core.List.{List, []}
-use Prim.Native.Nat.{ℕ, ◌+◌, ◌*◌, ◌/◌, ◌≤◌, ◌<◌}
-use lib.ListN.{length, set}
-use borrow.Author.Tests.{lt-ltb, le-ltb}
+use Prim.Native.Nat.{ℕ, ◌≤◌}
+use lib.ListN.{length}
+use native.Mathlib.Omega.{arith}
+use lib.Dec.{eqb}
+use Rattle.std.specs.Prelude.{cond, filter}
+use Rattle.std.specs.List.{range_with_len}
+use Rattle.std.proofs.lemmas.List.Sums.{length-filter}
 use Rattle.logic.specs.Pick.{pick}
-use Rattle.tables.specs.Pool.{Pool}
-use Rattle.outcome.specs.declared.answer.Answer.{Answer}
-use Rattle.outcome.specs.declared.notice.Notice.{Notice}
+use Rattle.logic.proofs.Lists.{sum_ranged, sum_same, sum_most}
+use Rattle.tables.specs.Tables.{number_of}
+use Rattle.outcome.specs.Room.{live_one, live_count}
+use Rattle.tables.specs.Pool.{Pool, pool_of}
 use Rattle.outcome.specs.declared.reply.Reply.{Reply}
 use Rattle.outcome.specs.declared.answer.Refusal.{Refusal}
-use Rattle.outcome.specs.declared.answer.Against.{Against}
-use Rattle.outcome.specs.declared.answer.Against.TheVariants.{Why, Nothing as Fine}
-use Rattle.outcome.specs.Answers.{code_of, value_of, unless}
-use Rattle.outcome.specs.Told.{Told, told_of, put_notice}
+use Rattle.outcome.specs.Answers.{code_of, value_of, unless, Answer, Checked}
+use Rattle.outcome.specs.Told.{Told, told_of}
 use Rattle.outcome.specs.Outcome.{Outcome, outcome_of, outcome, numbers_of, in_numbers}
-
-pub put_room : (l : List ℕ) (c : ℕ) (n : Notice) {a b d e : List ℕ} → c < length l / 4 → a ≡ set l (c * 4) n.mapping → b ≡ set a (c * 4 + 1) n.first → d ≡ set b (c * 4 + 2) n.pages → e ≡ set d (c * 4 + 3) n.op → told_of e (c + 1) ≡ put_notice (told_of l c) n
-unfolding put_notice
-put_room l c n h p q r s = rw (lt-ltb _ _ h, s, r, q, p)
-
-pub put_full : (l : List ℕ) (c : ℕ) (n : Notice) → length l / 4 ≤ c → told_of l c ≡ put_notice (told_of l c) n
-unfolding put_notice
-put_full l c n h = rw (le-ltb _ _ h)
 
 -- an export gives its call's outcome in numbers
 module _ (r : Reply) (p : Pool) (list buf : List ℕ) {rule : Outcome Answer} {c v : ℕ} (e : outcome r p list buf ≡ rule) (f : c ≡ code_of r.answer) (g : v ≡ value_of r.answer r.done) where
@@ -44,12 +40,36 @@ gives_quiet r p buf {rule} {c} {v} e f g q =
     let a : told_of [] 0 ≡ told_of [] r.count = sym (ap (λ (o : Outcome Answer). o.told) e ∙ q.0) in
     ap (λ (t : Told). outcome_of (numbers_of c v) p t 0 0 buf) a ∙ gives_frameless r p [] buf e f g q.1
 
+-- a pool that is lent in parts, of which three come back changed
+pub of_parts : {A : Type 0} {a : A} {t : Told} {d k : ℕ} {buf : List ℕ} {x : Outcome A} {N P P' U U' M H Y Y' : List ℕ} → outcome_of a (pool_of N P U M H Y) t d k buf ≡ x → P' ≡ P → U' ≡ U → Y' ≡ Y → outcome_of a (pool_of N P' U' M H Y') t d k buf ≡ x
+of_parts e p u y = rw (p, u, y) e
+
 -- what holds of both holds of the choice
 pub pick_has : {A : Type 0} (B : A → Type 0) (b : Bool) {x y : A} → B x → B y → B (pick b x y)
 pick_has B true h d = h
 pick_has B false h d = d
 
 -- what holds of a refusal and of the work holds of a call with tests
-pub tested : {A : Type 0} (B : A → Type 0) (a : Against) {refuse : Refusal → A} {does : A} → ((r : Refusal) → B (refuse r)) → B does → B (unless a refuse does)
-tested B (Why r) h d = h r
-tested B Fine h d = d
+pub tested : {A : Type 0} (B : A → Type 0) (a : Checked) {refuse : Refusal → A} {does : A} → ((r : Refusal) → B (refuse r)) → B does → B (unless a refuse does)
+tested B (Err r) h d = h r
+tested B (Ok u) h d = d
+
+-- the live mappings, counted by a test of each place
+one_live : (b : Bool) → ◌≡◌ {A = ℕ} (cond (not b) 1 0) (pick b 0 1)
+one_live true = refl
+one_live false = refl
+
+pub live_counted : (M : List ℕ) → length (filter (λ i. not (eqb (number_of M i) 0)) (range_with_len 0 64)) ≡ live_count M
+unfolding live_count live_one
+live_counted M =
+    length-filter (λ i. not (eqb (number_of M i) 0)) (range_with_len 0 64)
+    ∙ sum_ranged (λ i. cond (not (eqb (number_of M i) 0)) 1 0) 64
+    ∙ sum_same (λ i. cond (not (eqb (number_of M i) 0)) 1 0) (live_one M) 64 (λ i l. one_live (eqb (number_of M i) 0))
+
+most_one : (b : Bool) → pick b 0 1 ≤ 1
+most_one true = omega arith
+most_one false = omega arith
+
+pub live_most : (M : List ℕ) → live_count M ≤ 64
+unfolding live_count live_one
+live_most M = sum_most (live_one M) 1 64 (λ i. most_one (eqb (number_of M i) 0))

@@ -1,11 +1,15 @@
 -- What a call can say, by document 01's numbers.
-use Rattle.std.specs.Prelude.{ℕ}
-use Rattle.outcome.specs.declared.answer.Answer.{Answer}
-use Rattle.outcome.specs.declared.answer.Answer.TheVariants.{Done, Refused}
-use Rattle.outcome.specs.declared.answer.Against.{Against}
-use Rattle.outcome.specs.declared.answer.Against.TheVariants.{Why, Nothing as Fine}
+use Rattle.std.specs.Prelude.{ℕ, Result, Ok, Err, ⊤}
 use Rattle.outcome.specs.declared.answer.Refusal.{Refusal}
 use Rattle.outcome.specs.declared.answer.Refusal.TheVariants.{OutOfRange, BadState, InvalidArgs, NoMemory, NotSupported, Unavailable, BadPool, NoObject, NoNode, NoRoom, Stopped, PinLedger}
+
+-- a call's answer: its value, or why it is refused
+abbrev pub Answer : Type 0
+Answer = Result ℕ Refusal
+
+-- what a call's tests say: nothing against it, or why it is refused
+abbrev pub Checked : Type 0
+Checked = Result ⊤ Refusal
 
 abbrev pub refusal_number : Refusal → ℕ
 refusal_number OutOfRange = 1
@@ -22,15 +26,15 @@ refusal_number Stopped = 11
 refusal_number PinLedger = 12
 
 abbrev pub code_of : Answer → ℕ
-code_of (Done v) = 0
-code_of (Refused r) = refusal_number r
+code_of (Ok v) = 0
+code_of (Err r) = refusal_number r
 
 -- the value of an answer and the bytes done; where it is refused these, which are 0 for every call but write
 abbrev pub value_of : Answer → ℕ → ℕ
-value_of (Done v) done = v
-value_of (Refused r) done = done
+value_of (Ok v) done = v
+value_of (Err r) done = done
 
 -- a call's tests found why it is refused, or it does its work
-abbrev pub unless : {A : Type 0} → Against → (Refusal → A) → A → A
-unless (Why r) refuse does = refuse r
-unless Fine refuse does = does
+abbrev pub unless : {A : Type 0} → Checked → (Refusal → A) → A → A
+unless (Err r) refuse does = refuse r
+unless (Ok u) refuse does = does

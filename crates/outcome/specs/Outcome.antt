@@ -1,11 +1,9 @@
 -- The one outcome of a call, and of its export.
-use Rattle.std.specs.Prelude.{ℕ, List}
+use Rattle.std.specs.Prelude.{ℕ, List, Result, Ok, Err}
 use Rattle.tables.specs.Pool.{Pool}
-use Rattle.outcome.specs.declared.answer.Answer.{Answer}
-use Rattle.outcome.specs.declared.answer.Answer.TheVariants.{Refused}
 use Rattle.outcome.specs.declared.answer.Refusal.{Refusal}
 use Rattle.outcome.specs.declared.reply.Reply.{Reply}
-use Rattle.outcome.specs.Answers.{code_of, value_of}
+use Rattle.outcome.specs.Answers.{code_of, value_of, Answer}
 use Rattle.outcome.specs.Told.{Told, told_of}
 
 -- the answer; the pool; the notice list and how many notices are in it; the bytes done; the frames taken; the buffer.
@@ -24,13 +22,18 @@ outcome_of a p t d k b = record { answer = a; pool = p; told = t; done = d; take
 abbrev pub reply_of : Answer → Reply
 reply_of a = record { answer = a; done = 0; taken = 0; count = 0 }
 
+-- a call's reply, or the refusal before its work
+abbrev pub reply_by : Result Reply Refusal → Reply
+reply_by (Ok r) = r
+reply_by (Err r) = reply_of (Err r)
+
 -- a reply with the pool, the list and the buffer at exit
 abbrev pub outcome : Reply → Pool → List ℕ → List ℕ → Outcome Answer
 outcome r p list buf = outcome_of r.answer p (told_of list r.count) r.done r.taken buf
 
 -- a refusal leaves the pool, the list and the buffer as they were; nothing is done
 abbrev pub refused : Pool → List ℕ → List ℕ → Refusal → Outcome Answer
-refused p list buf r = outcome (reply_of (Refused r)) p list buf
+refused p list buf r = outcome (reply_of (Err r)) p list buf
 
 -- an answer in document 01's numbers
 pub record Numbers : Type 0 where

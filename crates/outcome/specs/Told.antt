@@ -2,6 +2,8 @@
 use Rattle.std.specs.Prelude.{ℕ, ◌+◌, ◌*◌, ◌/◌, List, ltb, length, set}
 use Rattle.logic.specs.Pick.{pick}
 use Rattle.outcome.specs.declared.notice.Notice.{Notice}
+use Rattle.outcome.specs.declared.notice.RangeChangeOp.{RangeChangeOp}
+use Rattle.outcome.specs.declared.notice.RangeChangeOp.TheVariants.{Unmap, RemoveWrite}
 
 -- the two operations of a notice
 abbrev pub unmap : ℕ
@@ -9,6 +11,10 @@ unmap = 1
 
 abbrev pub remove_write : ℕ
 remove_write = 2
+
+abbrev pub op_number : RangeChangeOp → ℕ
+op_number Unmap = unmap
+op_number RemoveWrite = remove_write
 
 -- the lent list and how many notices are in it
 pub record Told : Type 0 where

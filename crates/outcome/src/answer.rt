@@ -1,8 +1,8 @@
 // What a call can say: document 01's table.
 ghost use Rattle.std.specs.Prelude.{◌≡◌};
-ghost use Rattle.outcome.specs.Answers.{refusal_number, code_of, value_of};
+ghost use Rattle.outcome.specs.Answers.{refusal_number};
 
-#[derive(Clone, Copy)]
+#[derive(Clone, Copy, Debug, PartialEq, Eq)]
 pub enum Refusal {
     OutOfRange,
     BadState,
@@ -18,24 +18,14 @@ pub enum Refusal {
     PinLedger,
 }
 
-#[derive(Clone, Copy)]
-pub enum Answer {
-    Done(u64),
-    Refused(Refusal),
-}
+// A call's value, or why it is refused.
+pub type Answer = Result<u64, Refusal>;
 
-// What a call's tests found against it.
-#[derive(Clone, Copy)]
-pub enum Against {
-    Why(Refusal),
-    Nothing,
-}
+impl From<Refusal> for u32 {
+    ghost from_gives = { λ why n. n ≡ refusal_number why };
 
-impl Refusal {
-    pub fn number(self) -> u32
-        ensures { result ≡ refusal_number self }
-    {
-        match self {
+    fn from(why: Refusal) -> u32 {
+        match why {
             Refusal::OutOfRange => 1,
             Refusal::BadState => 2,
             Refusal::InvalidArgs => 3,
@@ -48,27 +38,6 @@ impl Refusal {
             Refusal::NoRoom => 10,
             Refusal::Stopped => 11,
             Refusal::PinLedger => 12,
-        }
-    }
-}
-
-impl Answer {
-    pub fn code(self) -> u32
-        ensures { result ≡ code_of self }
-    {
-        match self {
-            Answer::Done(_) => 0,
-            Answer::Refused(why) => why.number(),
-        }
-    }
-
-    // Of a refused call the bytes done.
-    pub fn value(self, done: u64) -> u64
-        ensures { result ≡ value_of self done }
-    {
-        match self {
-            Answer::Done(value) => value,
-            Answer::Refused(_) => done,
         }
     }
 }

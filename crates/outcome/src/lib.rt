@@ -7,7 +7,7 @@ mod notice;
 mod reply;
 mod room;
 
-pub use answer::{Against, Answer, Refusal};
-pub use notice::{Notice, REMOVE_WRITE, UNMAP, put_notice};
+pub use answer::{Answer, Refusal};
+pub use notice::{Notice, Notices, RangeChangeOp};
 pub use reply::Reply;
 pub use room::has_room;

@@ -1,8 +1,7 @@
 // A call's answer with what it counts.
-ghost use Rattle.std.specs.Prelude.{◌≡◌};
-ghost use Rattle.outcome.specs.declared.answer.Answer.TheVariants.{Refused};
+ghost use Rattle.std.specs.Prelude.{◌≡◌, Err};
 ghost use Rattle.outcome.specs.Answers.{code_of, value_of};
-ghost use Rattle.outcome.specs.Outcome.{reply_of};
+ghost use Rattle.outcome.specs.Outcome.{reply_by, reply_of};
 
 use crate::answer::{Answer, Refusal};
 
@@ -29,22 +28,32 @@ impl Reply {
     }
 
     pub fn refused(why: Refusal) -> Self
-        ensures { result ≡ reply_of (Refused why) }
+        ensures { result ≡ reply_of (Err why) }
     {
-        Reply::of(Answer::Refused(why))
+        Reply::of(Err(why))
     }
 
+    // Of the work, or of a refusal before it.
+    pub fn of_work(work: Result<Self, Refusal>) -> Self
+        ensures { result ≡ reply_by work }
+    {
+        work.unwrap_or_else(Reply::refused)
+    }
+
+    // For the export: 0 for Ok, which is no refusal, so a `match`.
     pub fn code(self) -> u32
         ensures { result ≡ code_of self.answer }
     {
-        let answer = self.answer;
-        answer.code()
+        match self.answer {
+            Ok(_) => 0,
+            Err(why) => u32::from(why),
+        }
     }
 
+    // For the export: of a refused call the bytes done.
     pub fn value(self) -> u64
         ensures { result ≡ value_of self.answer self.done }
     {
-        let answer = self.answer;
-        answer.value(self.done)
+        self.answer.unwrap_or(self.done)
     }
 }

@@ -1,2 +1,3 @@
 pub mod Each
 pub mod Pages
+pub mod Lent

@@ -1,46 +1,41 @@
 -- One page of a read, a write and a commit.
-use Rattle.std.specs.Prelude.{ℕ, ◌+◌, ◌-◌, ◌*◌, true, false, List, []}
+use Rattle.std.specs.Prelude.{ℕ, ◌+◌, ◌-◌, ◌*◌, true, false, List, [], Option, Ok, Some, None, Err}
+use Rattle.outcome.specs.Answers.{Checked}
 use Rattle.blocks.specs.declared.BlockIter.{BlockIter}
 use Rattle.blocks.specs.declared.BlockRange.{BlockRange}
-use Rattle.blocks.specs.declared.Next.{Next}
-use Rattle.blocks.specs.declared.Next.TheVariants.{Block, Done}
 use Rattle.blocks.specs.Blocks.{next_of}
 use Rattle.frames.specs.Frames.{pasted_at, blank_at}
 use Rattle.outcome.specs.Told.{told_of}
-use Rattle.lookup.specs.declared.Committed.{Committed}
-use Rattle.lookup.specs.declared.Committed.TheVariants.{Frame, ZeroFrame, Refused}
 use Rattle.lookup.specs.Work.{Work, work_of}
-use Rattle.lookup.specs.Commit.{Committing, commit_leaf}
+use Rattle.lookup.specs.Commit.{Committing, commit_leaf, Committed}
 use Rattle.outcome.specs.declared.answer.Refusal as R
-use Rattle.outcome.specs.declared.answer.Against.{Against}
-use Rattle.outcome.specs.declared.answer.Against.TheVariants.{Why, Nothing as Fine}
 use Rattle.page.specs.Each.{Part, part_of}
 
 -- a write's page: a lookup for writing gives a frame or refuses
-abbrev pub against_write : Committed → Against
-against_write (Frame f) = Fine
-against_write ZeroFrame = Why R.TheVariants.Stopped
-against_write (Refused r) = Why r
+abbrev pub against_write : Committed → Checked
+against_write (Ok (Some f)) = Ok tt
+against_write (Ok None) = Err R.TheVariants.Stopped
+against_write (Err r) = Err r
 
 -- write, 240: the block's bytes of b go into the page's frame, at its place in it
 unfoldable pub stored_by : ℕ → List ℕ → ℕ → BlockRange → Committed → Work → Work
-stored_by L bytes from b (Frame f) w =
+stored_by L bytes from b (Ok (Some f)) w =
     work_of w.pages w.used (pasted_at w.memory (f * L + b.begin) bytes from (b.end - b.begin)) w.told
-stored_by L bytes from b ZeroFrame w = w
-stored_by L bytes from b (Refused r) w = w
+stored_by L bytes from b (Ok None) w = w
+stored_by L bytes from b (Err r) w = w
 
 -- where the next page stands: this one again where it was refused
-abbrev pub rest_by : {C : Type 0} → Against → C → C → C
-rest_by (Why r) this next = this
-rest_by Fine this next = next
+abbrev pub rest_by : {C : Type 0} → Checked → C → C → C
+rest_by (Err r) this next = this
+rest_by (Ok u) this next = next
 
 unfoldable pub wrote_page : ℕ → List ℕ → ℕ → BlockRange → BlockIter → BlockIter → Committing → Part BlockIter Work
 wrote_page L bytes from b it next l =
     part_of (against_write l.answer) (rest_by (against_write l.answer) it next) (stored_by L bytes from b l.answer l.work)
 
-unfoldable pub write_by : ℕ → List ℕ → List ℕ → ℕ → ℕ → List ℕ → BlockIter → Work → Next → Part BlockIter Work
-write_by L N M node offset bytes it w Done = part_of Fine it w
-write_by L N M node offset bytes it w (Block b next) =
+unfoldable pub write_by : ℕ → List ℕ → List ℕ → ℕ → ℕ → List ℕ → BlockIter → Work → Option (BlockRange × BlockIter) → Part BlockIter Work
+write_by L N M node offset bytes it w None = part_of (Ok tt) it w
+write_by L N M node offset bytes it w (Some (b, next)) =
     wrote_page L bytes (it.begin - offset) b it next (commit_leaf L N M w node b.block true)
 
 unfoldable pub write_page : ℕ → List ℕ → List ℕ → ℕ → ℕ → List ℕ → BlockIter → Work → Part BlockIter Work
@@ -63,16 +58,16 @@ pub record Read : Type 0 where
 abbrev pub read_of : List ℕ → List ℕ → List ℕ → List ℕ → Read
 read_of p u m b = record { pages = p; used = u; memory = m; buf = b }
 
-abbrev pub against_read : Committed → Against
-against_read (Frame f) = Fine
-against_read ZeroFrame = Fine
-against_read (Refused r) = Why r
+abbrev pub against_read : Committed → Checked
+against_read (Ok (Some f)) = Ok tt
+against_read (Ok None) = Ok tt
+against_read (Err r) = Err r
 
 -- read, 230: the block of the page's frame, or zeros, goes to its place in the buffer
 unfoldable pub fetched_by : ℕ → ℕ → BlockRange → Committed → List ℕ → List ℕ → List ℕ
-fetched_by L to b (Frame f) m buf = pasted_at buf to m (f * L + b.begin) (b.end - b.begin)
-fetched_by L to b ZeroFrame m buf = blank_at buf to (b.end - b.begin)
-fetched_by L to b (Refused r) m buf = buf
+fetched_by L to b (Ok (Some f)) m buf = pasted_at buf to m (f * L + b.begin) (b.end - b.begin)
+fetched_by L to b (Ok None) m buf = blank_at buf to (b.end - b.begin)
+fetched_by L to b (Err r) m buf = buf
 
 -- a lookup without its notices
 pub record Glance : Type 0 where
@@ -96,9 +91,9 @@ read_through L to b it next buf g =
     part_of (against_read g.answer) (rest_by (against_read g.answer) it next)
     (read_of g.pages g.used g.memory (fetched_by L to b g.answer g.memory buf))
 
-unfoldable pub read_by : ℕ → List ℕ → List ℕ → ℕ → ℕ → BlockIter → Read → Next → Part BlockIter Read
-read_by L N M node offset it s Done = part_of Fine it s
-read_by L N M node offset it s (Block b next) =
+unfoldable pub read_by : ℕ → List ℕ → List ℕ → ℕ → ℕ → BlockIter → Read → Option (BlockRange × BlockIter) → Part BlockIter Read
+read_by L N M node offset it s None = part_of (Ok tt) it s
+read_by L N M node offset it s (Some (b, next)) =
     read_through L (it.begin - offset) b it next s.buf (look_read L N M s.pages s.used s.memory node b.block)
 
 unfoldable pub read_page : ℕ → List ℕ → List ℕ → ℕ → ℕ → BlockIter → Read → Part BlockIter Read

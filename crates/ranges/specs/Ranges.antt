@@ -1,15 +1,11 @@
 -- The calls read, write and commit on a pool of pages of L bytes, refused ones too.
-use Rattle.std.specs.Prelude.{ℕ, ◌+◌, ◌-◌, ◌/◌, List, [], length}
+use Rattle.std.specs.Prelude.{ℕ, ◌+◌, ◌-◌, ◌/◌, List, [], length, Ok, Err}
 use Rattle.logic.specs.Pick.{pick}
 use Rattle.node.specs.Node.{cached_of, contains_of}
 use Rattle.blocks.specs.declared.BlockIter.{BlockIter}
 use Rattle.blocks.specs.Blocks.{iter_of, count_of}
-use Rattle.outcome.specs.declared.answer.Answer.{Answer}
-use Rattle.outcome.specs.declared.answer.Answer.TheVariants.{Done, Refused}
 use Rattle.outcome.specs.declared.answer.Refusal as R
-use Rattle.outcome.specs.declared.answer.Against.{Against}
-use Rattle.outcome.specs.declared.answer.Against.TheVariants.{Why, Nothing as Fine}
-use Rattle.outcome.specs.Answers.{unless}
+use Rattle.outcome.specs.Answers.{unless, Answer, Checked}
 use Rattle.outcome.specs.Told.{told_of}
 use Rattle.outcome.specs.Room.{room_of}
 use Rattle.outcome.specs.Outcome.{Outcome, outcome_of, refused}
@@ -22,12 +18,12 @@ use Rattle.page.specs.Each.{Part, each}
 use Rattle.page.specs.Pages.{Read, read_of, read_page, write_page, commit_one}
 
 -- the answer of a call that went so far
-abbrev pub answer_by : Against → ℕ → Answer
-answer_by (Why r) v = Refused r
-answer_by Fine v = Done v
+abbrev pub answer_by : Checked → ℕ → Answer
+answer_by (Err r) v = Err r
+answer_by (Ok u) v = Ok v
 
 -- what a call that takes frames leaves: the bytes done, and the fall of the free count
-unfoldable pub ranged_by : Pool → Against → ℕ → Work → Outcome Answer
+unfoldable pub ranged_by : Pool → Checked → ℕ → Work → Outcome Answer
 ranged_by p why done w =
     outcome_of (answer_by why done) (pool_of p.nodes w.pages w.used p.mappings p.head w.memory) w.told done
     (free_count p.used - free_count w.used) []
@@ -37,13 +33,13 @@ abbrev pub start_work : Pool → List ℕ → Work
 start_work p list = work_of p.pages p.used p.memory (told_of list 0)
 
 -- write: BAD_STATE, OUT_OF_RANGE, NO_ROOM; then page by page
-unfoldable pub against_writing : ℕ → List ℕ → List ℕ → List ℕ → ℕ → ℕ → ℕ → Against
+unfoldable pub against_writing : ℕ → List ℕ → List ℕ → List ℕ → ℕ → ℕ → ℕ → Checked
 against_writing L N M list n offset len =
     pick (cached_of (node_of N n))
     (pick (contains_of L (node_of N n) offset len)
-    (pick (room_of M list (count_of L (iter_of offset (offset + len)))) Fine (Why R.TheVariants.NoRoom))
-    (Why R.TheVariants.OutOfRange))
-    (Why R.TheVariants.BadState)
+    (pick (room_of M list (count_of L (iter_of offset (offset + len)))) (Ok tt) (Err R.TheVariants.NoRoom))
+    (Err R.TheVariants.OutOfRange))
+    (Err R.TheVariants.BadState)
 
 unfoldable pub write_range : ℕ → List ℕ → List ℕ → ℕ → ℕ → List ℕ → Work → Part BlockIter Work
 write_range L N M n offset bytes w =
@@ -64,11 +60,11 @@ abbrev pub write : ℕ → Pool → List ℕ → ℕ → ℕ → List ℕ → Ou
 write L p list object offset bytes = on_object L p object (refused p list []) (λ n. write_at L p list n offset bytes)
 
 -- commit: OUT_OF_RANGE, NO_ROOM; then page by page, 301
-unfoldable pub against_committing : ℕ → List ℕ → List ℕ → List ℕ → ℕ → ℕ → ℕ → Against
+unfoldable pub against_committing : ℕ → List ℕ → List ℕ → List ℕ → ℕ → ℕ → ℕ → Checked
 against_committing L N M list n offset len =
     pick (contains_of L (node_of N n) offset len)
-    (pick (room_of M list (len / L)) Fine (Why R.TheVariants.NoRoom))
-    (Why R.TheVariants.OutOfRange)
+    (pick (room_of M list (len / L)) (Ok tt) (Err R.TheVariants.NoRoom))
+    (Err R.TheVariants.OutOfRange)
 
 unfoldable pub commit_range : ℕ → List ℕ → List ℕ → ℕ → ℕ → ℕ → Work → Part ℕ Work
 commit_range L N M n first pages w = each (commit_one L N M n) pages first w
@@ -89,9 +85,9 @@ abbrev pub commit : ℕ → Pool → List ℕ → ℕ → ℕ → ℕ → Outcom
 commit L p list object offset len = on_object L p object (refused p list []) (λ n. commit_at L p list n offset len)
 
 -- read: BAD_STATE, OUT_OF_RANGE; then page by page
-unfoldable pub against_reading : ℕ → List ℕ → ℕ → ℕ → ℕ → Against
+unfoldable pub against_reading : ℕ → List ℕ → ℕ → ℕ → ℕ → Checked
 against_reading L N n offset len =
-    pick (cached_of (node_of N n)) (pick (contains_of L (node_of N n) offset len) Fine (Why R.TheVariants.OutOfRange)) (Why R.TheVariants.BadState)
+    pick (cached_of (node_of N n)) (pick (contains_of L (node_of N n) offset len) (Ok tt) (Err R.TheVariants.OutOfRange)) (Err R.TheVariants.BadState)
 
 unfoldable pub read_range : ℕ → List ℕ → List ℕ → ℕ → ℕ → Read → Part BlockIter Read
 read_range L N M n offset s =

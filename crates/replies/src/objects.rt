@@ -1,115 +1,116 @@
-// Calls on the pool and its objects.
-use crate::bytes;
-use crate::said::Did;
-use lines::Line;
-use outcome::{Answer, Refusal, Reply};
+// The calls that make objects and change who maps them.
+ghost use Rattle.std.specs.Prelude.{◌≡◌};
 
-// s F: this program holds 64 frames.
-pub fn holds(frames: u64) -> bool {
-    (0 < frames) & (frames <= 64)
+use lookup::Store;
+use outcome::{Answer, Reply};
+use tables::Tree;
+
+// The nodes, the mappings and the head: what a pool has beside its store.
+#[derive(Drop)]
+pub struct Objects<'a> {
+    pub nodes: &'a mut [u32],
+    pub mappings: &'a mut [u32],
+    pub head: &'a mut [u32],
 }
 
-// a N: the lent notice list takes 4,096 notices.
-pub fn lends(room: u64) -> bool {
-    room <= 4096
-}
-
-pub fn lend(room: u64) -> Reply {
-    if lends(room) {
-        return Reply::of(Answer::Done(0));
+// What a call is lent as `&` beside a `&mut` is taken first, as the proof needs it.
+impl Objects<'_> {
+    pub(crate) fn tree(&self) -> Tree<'_>
+        ensures nodes { result.nodes.now ≡ self.now.nodes.now }
+        ensures mappings { result.mappings.now ≡ self.now.mappings.now }
+    {
+        Tree {
+            nodes: self.nodes,
+            mappings: self.mappings,
+        }
     }
-    Reply::refused(Refusal::InvalidArgs)
-}
 
-// s F: a fresh pool, memory zeros.
-pub fn start(
-    frames: u64,
-    nodes: &mut [u32],
-    pages: &mut [u32],
-    used: &mut [u8],
-    mappings: &mut [u32],
-    head: &mut [u32],
-    memory: &mut [u8],
-) -> Reply {
-    if holds(frames) {
-        bytes::wipe(memory);
-        return pool::start(nodes, pages, used, mappings, head, memory);
+    pub(crate) fn head(&self) -> &[u32]
+        ensures { result.now ≡ self.now.head.now }
+    {
+        self.head
     }
-    Reply::refused(Refusal::BadPool)
-}
 
-// An offset or a length of k, in pages, or of K, in bytes.
-fn in_unit(letter: u8, n: u64) -> u64 {
-    if letter == b'k' {
-        return bytes::in_bytes(n);
+    // A fresh pool, memory zeros.
+    pub(crate) fn start(&mut self, store: &mut Store) -> Answer {
+        store.memory.fill(0);
+        let memory = &mut *store.memory;
+        pool::start(
+            self.nodes,
+            store.pages,
+            store.used,
+            self.mappings,
+            self.head,
+            memory,
+        )
     }
-    n
-}
 
-// k O first count / K O offset len
-pub fn child(
-    line: Line,
-    nodes: &mut [u32],
-    pages: &mut [u32],
-    used: &[u8],
-    mappings: &[u32],
-    head: &mut [u32],
-    memory: &[u8],
-    notices: &mut [u32],
-) -> Did {
-    Did::Said(child::create_child(
-        nodes,
-        pages,
-        used,
-        mappings,
-        head,
-        memory,
-        notices,
-        line.a,
-        in_unit(line.letter, line.b),
-        in_unit(line.letter, line.c),
-    ))
-}
+    pub(crate) fn new(&mut self, store: &Store, size: u64) -> Answer {
+        let mappings = &mut *self.mappings;
+        pool::new(
+            self.nodes,
+            store.pages,
+            store.used,
+            mappings,
+            self.head,
+            store.memory,
+            size,
+        )
+    }
 
-// m O first pages
-pub fn map(
-    line: Line,
-    nodes: &[u32],
-    pages: &[u32],
-    used: &[u8],
-    mappings: &mut [u32],
-    head: &[u32],
-    memory: &[u8],
-) -> Did {
-    Did::Said(mapped::append_mapping(
-        nodes, pages, used, mappings, head, memory, line.a, line.b, line.c,
-    ))
-}
+    pub(crate) fn map(&mut self, store: &Store, object: u64, first: u64, pages: u64) -> Answer {
+        let nodes = &mut *self.nodes;
+        let head = &mut *self.head;
+        mapped::append_mapping(
+            nodes,
+            store.pages,
+            store.used,
+            self.mappings,
+            head,
+            store.memory,
+            object,
+            first,
+            pages,
+        )
+    }
 
-// u O M
-pub fn unmap(
-    line: Line,
-    nodes: &[u32],
-    pages: &[u32],
-    used: &[u8],
-    mappings: &mut [u32],
-    head: &[u32],
-    memory: &[u8],
-) -> Did {
-    Did::Said(mapped::remove_mapping(nodes, pages, used, mappings, head, memory, line.a, line.b))
-}
+    pub(crate) fn unmap(&mut self, store: &Store, object: u64, mapping: u64) -> Answer {
+        let nodes = &mut *self.nodes;
+        let head = &mut *self.head;
+        mapped::remove_mapping(
+            nodes,
+            store.pages,
+            store.used,
+            self.mappings,
+            head,
+            store.memory,
+            object,
+            mapping,
+        )
+    }
 
-// f O offset len
-pub fn forecast(
-    line: Line,
-    nodes: &[u32],
-    pages: &[u32],
-    used: &[u8],
-    mappings: &[u32],
-    head: &[u32],
-    memory: &[u8],
-) -> Did {
-    Did::Said(forecast::forecast(
-        nodes, pages, used, mappings, head, memory, line.a, line.b, line.c,
-    ))
+    pub(crate) fn child(
+        &mut self,
+        store: &mut Store,
+        notices: &mut [u32],
+        object: u64,
+        offset: u64,
+        len: u64,
+    ) -> Reply {
+        let mappings = &mut *self.mappings;
+        let used = &mut *store.used;
+        let memory = &mut *store.memory;
+        child::create_child(
+            self.nodes,
+            store.pages,
+            used,
+            mappings,
+            self.head,
+            memory,
+            notices,
+            object,
+            offset,
+            len,
+        )
+    }
 }

@@ -2,193 +2,78 @@
 
 #![tactic(auto)]
 
-ghost use Rattle.std.specs.Prelude.{◌≤◌};
-
-use node::Node;
+// The hash of no number.
+const SEED: u32 = 2166136261;
 
 fn mix(h: u32, x: u32) -> u32 {
-    ((h as u64 * 16777619 + x as u64) % 4294967296) as u32
-}
-
-pub fn seed() -> u32 {
-    2166136261
-}
-
-fn entries(h: u32, pages: &[u32], node: u32) -> u32 {
-    let mut h = h;
-    let mut i: u64 = 0;
-    while i < 64 {
-        h = mix(h, tables::entry_at(pages, node, i));
-        i += 1;
-    }
-    h
-}
-
-fn links(h: u32, n: Node) -> u32 {
-    mix(mix(mix(mix(h, n.kind), n.parent), n.left), n.right)
-}
-
-fn sizes(h: u32, n: Node) -> u32 {
-    mix(mix(mix(h, n.parent_offset), n.parent_limit), n.size)
+    h.wrapping_mul(16777619).wrapping_add(x)
 }
 
 // Words 0 to 74 of a node in the written tree.
 fn block(h: u32, nodes: &[u32], pages: &[u32], node: u32) -> u32 {
     let n = tables::node_at(nodes, node);
-    let head = sizes(links(mix(h, node), n), n);
-    let row = entries(head, pages, node);
-    mix(mix(mix(row, n.owner), n.cache_policy), n.pin_count)
+    let links = [node, n.kind, n.parent, n.left, n.right];
+    let sizes = [n.parent_offset, n.parent_limit, n.size];
+    let entries = (0..64).map(|page| tables::entry_at(pages, node, page));
+    let rest = [n.owner, n.cache_policy, n.pin_count];
+    links
+        .into_iter()
+        .chain(sizes)
+        .chain(entries)
+        .chain(rest)
+        .fold(h, mix)
 }
 
 pub fn tree(nodes: &[u32], pages: &[u32]) -> u32 {
-    let mut h = seed();
-    let mut i: u32 = 0;
-    while i < 64 {
-        h = block(h, nodes, pages, i);
-        i += 1;
-    }
-    h
+    (0..64).fold(SEED, |h, node| block(h, nodes, pages, node))
 }
 
-// The place of a mapping's number, or 64.
-fn place_of(mappings: &[u32], number: u32) -> u32 {
-    let mut i: u32 = 0;
-    while i < 64 {
-        let m = tables::mapping_at(mappings, i);
-        if m.number as u64 == number as u64 + 1 {
-            return i;
-        }
-        i += 1;
-    }
-    64
+// The mapping whose number + 1 is so much: three zeros for none.
+fn numbered(h: u32, mappings: &[u32], number: u32) -> u32 {
+    (0..64)
+        .map(|place| tables::mapping_at(mappings, place))
+        .find(|m| m.number == number)
+        .map_or([0; 3], |m| [m.object % 64 + 1, m.first, m.pages])
+        .into_iter()
+        .fold(h, mix)
 }
 
-fn mapping(h: u32, mappings: &[u32], number: u32) -> u32 {
-    let m = tables::mapping_at(mappings, place_of(mappings, number));
-    if m.number == 0 {
-        return mix(mix(mix(h, 0), 0), 0);
-    }
-    mix(mix(mix(h, m.object % 64 + 1), m.first), m.pages)
-}
-
-// 1 where place i holds a mapping of the object.
-fn one_of(mappings: &[u32], object: u32, i: u32) -> u32
-    ensures { result ≤ 1 }
-{
-    let m = tables::mapping_at(mappings, i);
-    if (m.number != 0) & (m.object == object) {
-        return 1;
-    }
-    0
-}
-
-fn count_of(mappings: &[u32], object: u32) -> u32 {
-    let mut count: u32 = 0;
-    let mut i: u32 = 0;
-    while i < 64 {
-        count += one_of(mappings, object, i);
-        i += 1;
-    }
-    count
-}
-
-// One mapping of the object in list order, where place i holds one.
-fn listed(h: u32, mappings: &[u32], object: u32, i: u32) -> u32 {
-    let m = tables::mapping_at(mappings, i);
-    if m.number == 0 {
-        return h;
-    }
-    if m.object == object {
-        return mix(h, m.number - 1);
-    }
-    h
-}
-
-fn numbers(h: u32, mappings: &[u32], object: u32) -> u32 {
-    let mut h = h;
-    let mut i: u32 = 0;
-    while i < 64 {
-        h = listed(h, mappings, object, i);
-        i += 1;
-    }
-    h
-}
-
-fn by_number(h: u32, mappings: &[u32]) -> u32 {
-    let mut h = h;
-    let mut i: u32 = 0;
-    while i < 64 {
-        h = mapping(h, mappings, i);
-        i += 1;
-    }
-    h
+// How many mappings the object has, and their numbers in list order.
+fn listed(h: u32, mappings: &[u32], object: u32) -> u32 {
+    let numbers = || {
+        (0..64)
+            .map(|place| tables::mapping_at(mappings, place))
+            .filter(|m| m.object == object)
+            .filter_map(|m| m.number.checked_sub(1))
+    };
+    numbers().fold(mix(h, numbers().count() as u32), mix)
 }
 
 pub fn maps(mappings: &[u32]) -> u32 {
-    let mut h = by_number(seed(), mappings);
-    let mut i: u32 = 0;
-    while i < 64 {
-        h = numbers(mix(h, count_of(mappings, i)), mappings, i);
-        i += 1;
-    }
-    h
+    let by_number = (1..=64).fold(SEED, |h, number| numbered(h, mappings, number));
+    (0..64).fold(by_number, |h, object| listed(h, mappings, object))
 }
 
-fn wide(x: u8) -> u32 {
-    x as u32
+fn with_bytes(h: u32, bytes: &[u8]) -> u32 {
+    bytes.iter().fold(h, |h, byte| mix(h, *byte as u32))
 }
 
-pub fn bytes(h: u32, frame: &[u8]) -> u32 {
-    let mut h = h;
-    let mut i = 0;
-    while i < frame.len() {
-        h = mix(h, wide(frame[i]));
-        i += 1;
-    }
-    h
+pub fn bytes(bytes: &[u8]) -> u32 {
+    with_bytes(SEED, bytes)
 }
 
-// 1 where a frame is there and free, 2 where it is in use.
-fn flag(used: &[u8], f: u32) -> u32
-    ensures { result ≤ 2 }
-{
-    let i = f as usize;
-    if i < used.len() {
-        if used[i] == 0 {
-            return 1;
-        }
-        return 2;
-    }
-    0
-}
-
-fn frame(h: u32, used: &[u8], memory: &[u8], f: u32) -> u32 {
-    let a = f as usize * 4096;
-    let e = a + 4096;
-    if flag(used, f) == 2 {
-        if e <= memory.len() {
-            return bytes(mix(h, f), &memory[a..e]);
-        }
-    }
-    h
-}
-
+// The frames in use, each by its number and its bytes.
 pub fn mem(used: &[u8], memory: &[u8]) -> u32 {
-    let mut h = seed();
-    let mut i: u32 = 0;
-    while i < 64 {
-        h = frame(h, used, memory, i);
-        i += 1;
-    }
-    h
+    (0u32..64)
+        .zip(used)
+        .zip(memory.chunks_exact(4096))
+        .filter(|((_, used), _)| **used != 0)
+        .fold(
+            SEED,
+            |h, ((number, _), frame)| with_bytes(mix(h, number), frame),
+        )
 }
 
-pub fn free(used: &[u8]) -> u32 {
-    let mut free: u32 = 0;
-    let mut i: u32 = 0;
-    while i < 64 {
-        free += flag(used, i) % 2;
-        i += 1;
-    }
-    free
+pub fn free(used: &[u8]) -> usize {
+    used.iter().filter(|used| **used == 0).count()
 }

@@ -1,4 +1,5 @@
 -- What a call on a sound pool is never answered. Assumes nothing.
+use Rattle.std.specs.Prelude.{Option, ℕ, Some, None, Ok, Err}
 use mathlib.Core.Path.{◌≡◌, subst}
 use mathlib.Core.Bool.{Bool, true, false, ◌&&◌}
 use mathlib.Core.List.{List, []}
@@ -6,20 +7,15 @@ use Prim.Native.Nat.{ℕ, ◌+◌, ◌*◌, ◌/◌}
 use lib.Dec.{eqb, leb}
 use lib.ListN.{get_or}
 use Rattle.logic.specs.Pick.{pick}
-use Rattle.logic.specs.declared.Found.{Found}
-use Rattle.logic.specs.declared.Found.TheVariants.{At, Nothing}
 use Rattle.blocks.specs.Blocks.{aligned_of}
 use Rattle.node.specs.Node.{cached_of, contains_of}
 use Rattle.tables.specs.Pool.{Pool}
 use Rattle.tables.specs.Tables.{node_of, free_node_in, free_node_from}
 use Rattle.sound.specs.Facts.{Sound}
 use Rattle.soundness.proofs.Soundness.{facts_sound}
-use Rattle.outcome.specs.declared.answer.Answer.{Answer}
-use Rattle.outcome.specs.declared.answer.Answer.TheVariants.{Done, Refused}
 use Rattle.outcome.specs.declared.answer.Refusal.{Refusal}
 use Rattle.outcome.specs.declared.answer.Refusal.TheVariants.{OutOfRange, BadState, InvalidArgs, NoMemory, NotSupported, Unavailable, BadPool, NoObject, NoNode, NoRoom, Stopped, PinLedger}
-use Rattle.outcome.specs.declared.answer.Against.TheVariants.{Why, Nothing as Fine}
-use Rattle.outcome.specs.Answers.{unless}
+use Rattle.outcome.specs.Answers.{unless, Answer}
 use Rattle.outcome.specs.Outcome.{refused}
 use Rattle.pool.specs.Calls.{leaf_at, new_leaf, new}
 use Rattle.outcome.specs.Room.{room_of}
@@ -43,8 +39,8 @@ Fair short NoRoom = Unit
 Fair short PinLedger = Unit
 
 abbrev pub Answers : Type 0 → Answer → Type 0
-Answers short (Done v) = Unit
-Answers short (Refused r) = Fair short r
+Answers short (Ok v) = Unit
+Answers short (Err r) = Fair short r
 
 pub tests_fair : (short : Type 0) (r : Refusal) → ByTests r → Fair short r
 tests_fair short NoObject t = tt
@@ -61,18 +57,18 @@ tests_fair short Stopped t = absurd t
 tests_fair short PinLedger t = absurd t
 
 -- an answer that is a refusal
-pub answers_refused : (short : Type 0) {a : Answer} {r : Refusal} → Answers short a → a ≡ Refused r → Fair short r
+pub answers_refused : (short : Type 0) {a : Answer} {r : Refusal} → Answers short a → a ≡ Err r → Fair short r
 answers_refused short f e = subst (Answers short) e f
 
-pub answers_done : (short : Type 0) {a : Answer} {v : ℕ} → a ≡ Done v → Answers short a
+pub answers_done : (short : Type 0) {a : Answer} {v : ℕ} → a ≡ Ok v → Answers short a
 answers_done short e = rw e tt
 
 -- new and create_child
 
-leaf_answers : (short : Type 0) (p : Pool) (size : ℕ) (f : Found) → Answers short (leaf_at p size f).answer
+leaf_answers : (short : Type 0) (p : Pool) (size : ℕ) (f : Option ℕ) → Answers short (leaf_at p size f).answer
 unfolding leaf_at
-leaf_answers short p size (At i) = tt
-leaf_answers short p size Nothing = tt
+leaf_answers short p size (Some i) = tt
+leaf_answers short p size None = tt
 
 pub new_answers : (short : Type 0) (L : ℕ) (p : Pool) → Sound L p → (size : ℕ) → Answers short (new L p size).answer
 unfolding new new_leaf
@@ -84,19 +80,19 @@ new_answers short L p S size = rw (facts_sound L p S) (by (leb size 64) (leb (ge
     by false b = tt
 
 module _ (short : Type 0) (p : Pool) (list : List ℕ) (n first pages : ℕ) where
-  both_answers : (c : ℕ) (f : Found) → Answers short (with_both p list n first pages c f).answer
+  both_answers : (c : ℕ) (f : Option ℕ) → Answers short (with_both p list n first pages c f).answer
   unfolding with_both born
-  both_answers c (At x) = by (room_of p.mappings list 1)
+  both_answers c (Some x) = by (room_of p.mappings list 1)
     where
       by : (b : Bool) → Answers short (pick b (born p list (birth_by n c x first pages)) (refused p list [] NoRoom)).answer
       by true = tt
       by false = tt
-  both_answers c Nothing = tt
+  both_answers c None = tt
 
-  child_by_lem : (f : Found) → Answers short (with_child p list n first pages f).answer
+  child_by_lem : (f : Option ℕ) → Answers short (with_child p list n first pages f).answer
   unfolding with_child
-  child_by_lem (At c) = both_answers c (free_node_from p.nodes (c + 1))
-  child_by_lem Nothing = tt
+  child_by_lem (Some c) = both_answers c (free_node_from p.nodes (c + 1))
+  child_by_lem None = tt
 
   numbered_answers : Answers short (number_child p list n first pages).answer
   unfolding number_child
@@ -115,7 +111,7 @@ module _ (short : Type 0) (L : ℕ) (p : Pool) (list : List ℕ) (n offset len :
       (contains_of L (node_of p.nodes n) offset len)
     where
       by : (a b c : Bool)
-          → Answers short (unless (pick a (pick b (pick c Fine (Why OutOfRange)) (Why BadState)) (Why InvalidArgs)) (refused p list []) (number_child p list n (offset / L) (len / L))).answer
+          → Answers short (unless (pick a (pick b (pick c (Ok tt) (Err OutOfRange)) (Err BadState)) (Err InvalidArgs)) (refused p list []) (number_child p list n (offset / L) (len / L))).answer
       by true true true = numbered_answers short p list n (offset / L) (len / L)
       by true true false = tt
       by true false c = tt

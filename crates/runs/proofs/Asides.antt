@@ -1,18 +1,16 @@
 -- The calls that make no object and have no buffer: they leave the nodes and every array, and how they are answered. Assumes nothing.
+use Rattle.std.specs.Prelude.{Option, ℕ, Some, None, Ok, Err}
+use Rattle.outcome.specs.Answers.{Answer}
 use mathlib.Core.Path.{◌≡◌, refl}
 use mathlib.Core.Bool.{Bool, true, false}
 use mathlib.Core.List.{[]}
 use Prim.Native.Nat.{ℕ, ◌+◌}
 use lib.Dec.{ltb}
 use Rattle.logic.specs.Pick.{pick}
-use Rattle.logic.specs.declared.Found.{Found}
-use Rattle.logic.specs.declared.Found.TheVariants.{At, Nothing}
 use Rattle.node.specs.Node.{contains_of}
 use Rattle.tables.specs.Pool.{Pool}
 use Rattle.tables.specs.Tables.{node_of}
 use Rattle.sound.specs.Facts.{Sound}
-use Rattle.outcome.specs.declared.answer.Answer.{Answer}
-use Rattle.outcome.specs.declared.answer.Answer.TheVariants.{Done, Refused}
 use Rattle.outcome.specs.declared.answer.Refusal.TheVariants.{OutOfRange, InvalidArgs, NoMemory}
 use Rattle.outcome.specs.Outcome.{Outcome, refused}
 use Rattle.pool.specs.Calls.{saying, len_of, len}
@@ -52,13 +50,13 @@ module _ (short : Type 0) (L : ℕ) (p : Pool) (S : Sound L p) where
       on_leaf (refused p [] []) (λ m. saying (forecast_answer L p.nodes p.pages p.used m offset bytes) p) L p S n Quiet
       (stays _ tt) (λ leaf. by (contains_of L (node_of p.nodes n) offset bytes))
     where
-      by : (b : Bool) → Quiet (saying (pick b (Done (yes_of L p.pages p.used n (iter_of offset (offset + bytes)))) (Refused OutOfRange)) p)
+      by : (b : Bool) → Quiet (saying (pick b (Ok (yes_of L p.pages p.used n (iter_of offset (offset + bytes)))) (Err OutOfRange)) p)
       by true = stays _ tt
       by false = stays _ tt
 
-  found_answers : (f : Found) → Answers short (mapping_number f)
-  found_answers (At k) = tt
-  found_answers Nothing = tt
+  found_answers : (f : Option ℕ) → Answers short (mapping_number f)
+  found_answers (Some k) = tt
+  found_answers None = tt
 
   append-quiet : (n first pages : ℕ) → Quiet (append_mapping L p n first pages)
   unfolding append_at
@@ -74,7 +72,7 @@ module _ (short : Type 0) (L : ℕ) (p : Pool) (S : Sound L p) where
   remove_quiet n mapping =
       on_leaf (refused p [] []) (λ m. remove_at p m mapping) L p S n Quiet (stays _ tt) (λ leaf. by (ltb mapping 64))
     where
-      by : (b : Bool) → Quiet (pick b (saying (Done 0) (with_mappings p (removed p.mappings n mapping))) (saying (Done 0) p))
+      by : (b : Bool) → Quiet (pick b (saying (Ok 0) (with_mappings p (removed p.mappings n mapping))) (saying (Ok 0) p))
       by true = record { nodes = refl; answers = tt }
       by false = stays _ tt
 
@@ -106,7 +104,7 @@ module _ (L : ℕ) (B : ℕ → ℕ → ℕ → ℕ) (p : Pool) (P : Private L B
   aside_answers (Append n first pages) = (append-quiet _ L p P.sound n first pages).answers
   aside_answers (Remove n mapping) = (remove_quiet _ L p P.sound n mapping).answers
 
-  pub aside_lacks : (c : Aside) → TooFewFor L p c → (aside_effect L p c).answer ≡ Refused NoMemory
+  pub aside_lacks : (c : Aside) → TooFewFor L p c → (aside_effect L p c).answer ≡ Err NoMemory
   unfolding aside_effect
   aside_lacks (Commit list n offset len) l = commit_lacks L B p P list n offset len l
   aside_lacks (CommitPage list n page write) l = page_lacks L B p P list n page write l

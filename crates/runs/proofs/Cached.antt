@@ -1,4 +1,6 @@
 -- In every run all policies are Cached, since no call of a run sets another. Assumes nothing.
+use Rattle.std.specs.Prelude.{Option, ℕ, Some, None}
+use Rattle.outcome.specs.Answers.{Answer}
 use mathlib.Core.Path.{◌≡◌, refl, ◌∙◌}
 use mathlib.Core.Bool.{Bool, true, false}
 use mathlib.Core.List.{List, [], ◌∷◌}
@@ -6,15 +8,12 @@ use Prim.Native.Nat.{ℕ, ◌/◌, ◌≤◌}
 use lib.Dec.{leb}
 use lib.ListN.{length, get_or}
 use Rattle.logic.specs.Pick.{pick}
-use Rattle.logic.specs.declared.Found.{Found}
-use Rattle.logic.specs.declared.Found.TheVariants.{At, Nothing}
 use Rattle.logic.proofs.Means.{equal, split}
 use Rattle.node.specs.Node.{origin_node}
 use Rattle.tables.specs.Pool.{Pool}
 use Rattle.tables.specs.Tables.{node_of, free_node_in}
 use Rattle.sound.specs.Facts.{Sound}
 use Rattle.sound.specs.Sound.{lengths_ok, sound}
-use Rattle.outcome.specs.declared.answer.Answer.{Answer}
 use Rattle.outcome.specs.declared.answer.Refusal.TheVariants.{InvalidArgs, BadPool, NoNode}
 use Rattle.outcome.specs.Outcome.{Outcome, refused}
 use Rattle.pool.specs.Calls.{fresh_pool, start, leaf_at, new_leaf, new}
@@ -45,15 +44,15 @@ unfolding start fresh_pool
 fresh-cached L p h n = rw (h, zero_node (length p.nodes) n)
 
 module _ (L : ℕ) (p : Pool) (S : Sound L p) (C : Cached p.nodes) where
-  leaf_cached : (size : ℕ) (f : Found) → free_node_in p.nodes ≡ f → Cached (leaf_at p size f).pool.nodes
+  leaf_cached : (size : ℕ) (f : Option ℕ) → free_node_in p.nodes ≡ f → Cached (leaf_at p size f).pool.nodes
   unfolding leaf_at
-  leaf_cached size (At i) e n =
+  leaf_cached size (Some i) e n =
       let r = origin_node size (get_or p.head 0 0) in
       let len = S.lengths.nodes in
       split (equal n i)
       (λ d. rw (d, node_same p.nodes i r len (found_free p.nodes len i e).low))
       (λ ne. rw (node_away p.nodes i n r ne) (C n))
-  leaf_cached size Nothing e n = C n
+  leaf_cached size None e n = C n
 
   new-cached : (size : ℕ) → Cached (new L p size).pool.nodes
   unfolding new new_leaf

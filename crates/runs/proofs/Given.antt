@@ -1,4 +1,5 @@
 -- What read, len and peek give, by the object's array. Assumes nothing.
+use Rattle.std.specs.Prelude.{Ok, Err}
 use mathlib.Core.Path.{◌≡◌, refl, sym, ap, ◌∙◌}
 use mathlib.Core.Bool.{Bool, true, false}
 use mathlib.Core.List.{List, []}
@@ -12,11 +13,8 @@ use Rattle.node.specs.Node.{leaf_of, cached_of, contains_of}
 use Rattle.tables.specs.Pool.{Pool}
 use Rattle.tables.specs.Tables.{node_of}
 use Rattle.sound.specs.Facts.{Leaf}
-use Rattle.outcome.specs.declared.answer.Answer.{Answer}
-use Rattle.outcome.specs.declared.answer.Answer.TheVariants.{Done, Refused}
 use Rattle.outcome.specs.declared.answer.Refusal.TheVariants.{OutOfRange, BadState, NoObject}
-use Rattle.outcome.specs.declared.answer.Against.TheVariants.{Why, Nothing as Fine}
-use Rattle.outcome.specs.Answers.{unless}
+use Rattle.outcome.specs.Answers.{unless, Answer}
 use Rattle.outcome.specs.Outcome.{Outcome, refused}
 use Rattle.pool.specs.Calls.{saying, len_of, len}
 use Rattle.page.specs.Pages.{read_of}
@@ -39,11 +37,11 @@ module _ (L : ℕ) (A : Arrays) (p : Pool) (I : Isolated L A p) (n : ℕ) where
   abbrev cached : Bool
   cached = cached_of (node_of p.nodes n)
 
-  pub len_is : (len L p n).answer ≡ pick live (Done (length (A n))) (Refused NoObject)
+  pub len_is : (len L p n).answer ≡ pick live (Ok (length (A n))) (Err NoObject)
   unfolding len_of
   len_is =
       by_leaf (refused p [] []) (λ m. saying (len_of L p.nodes m) p) L p I.private.sound n
-      (λ (b : Bool) (r : Outcome Answer). r.answer ≡ pick b (Done (length (A n))) (Refused NoObject)) refl (λ leaf. ap Done (sym (I.lengths n leaf)))
+      (λ (b : Bool) (r : Outcome Answer). r.answer ≡ pick b (Ok (length (A n))) (Err NoObject)) refl (λ leaf. ap Ok (sym (I.lengths n leaf)))
 
   module _ (offset : ℕ) (buf : List ℕ) where
     abbrev range : Outcome Answer
@@ -54,15 +52,15 @@ module _ (L : ℕ) (A : Arrays) (p : Pool) (I : Isolated L A p) (n : ℕ) where
     done_none = refl
 
     read_inside : Leaf p.nodes n → offset + length buf ≤ (node_of p.nodes n).size * L
-        → result_in range ≡ result_of (Done 0) 0 (take (length buf) (drop offset (A n)))
+        → result_in range ≡ result_of (Ok 0) 0 (take (length buf) (drop offset (A n)))
     read_inside leaf inside =
         let w = read_through_lem L (paged L A) p I.private n offset buf leaf inside in
         let e = I.lengths n leaf in
         rw (w.answer, done_none, is_part (A n) offset (length buf) (omega arith) L range.buf w.size w.bytes)
 
     read_leaf : Leaf p.nodes n → (b c : Bool) → leb (offset + length buf) ((node_of p.nodes n).size * L) ≡ c
-        → result_in (unless (pick b (pick c Fine (Why OutOfRange)) (Why BadState)) (refused p [] buf) range)
-        ≡ pick b (pick c (result_of (Done 0) 0 (take (length buf) (drop offset (A n)))) (result_of (Refused OutOfRange) 0 buf)) (result_of (Refused BadState) 0 buf)
+        → result_in (unless (pick b (pick c (Ok tt) (Err OutOfRange)) (Err BadState)) (refused p [] buf) range)
+        ≡ pick b (pick c (result_of (Ok 0) 0 (take (length buf) (drop offset (A n)))) (result_of (Err OutOfRange) 0 buf)) (result_of (Err BadState) 0 buf)
     read_leaf leaf true true e = read_inside leaf (leb-true (offset + length buf) ((node_of p.nodes n).size * L) e)
     read_leaf leaf true false e = refl
     read_leaf leaf false c e = refl

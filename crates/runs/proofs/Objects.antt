@@ -1,4 +1,5 @@
 -- A call on an object of a sound pool goes on with a live leaf's own node. Assumes nothing.
+use Rattle.std.specs.Prelude.{Err, Ok}
 use mathlib.Core.Path.{◌≡◌, refl, ap}
 use mathlib.Core.Bool.{Bool, true, false, ◌&&◌}
 use Prim.Native.Nat.{ℕ, ◌<◌}
@@ -16,10 +17,7 @@ use Rattle.soundness.proofs.Records.{node_out}
 use Rattle.soundness.proofs.Soundness.{facts_sound}
 use Rattle.outcome.specs.declared.answer.Refusal.{Refusal}
 use Rattle.outcome.specs.declared.answer.Refusal.TheVariants.{NoObject}
-use Rattle.outcome.specs.declared.answer.Against.{Against}
-use Rattle.outcome.specs.declared.answer.Against.TheVariants.{Why, Nothing as Fine}
-use Rattle.outcome.specs.Answers.{unless}
-use Rattle.pool.specs.declared.entering.Entered.TheVariants.{At, Refused}
+use Rattle.outcome.specs.Answers.{unless, Checked}
 use Rattle.pool.specs.Calls.{entered, on_entered, on_object}
 use Rattle.births.proofs.Cloned.{leaf_live}
 
@@ -36,11 +34,11 @@ module _ {R : Type 0} (refuse : Refusal → R) (does : ℕ → R) (L : ℕ) (p :
   unfolding on_object on_entered entered
   by_leaf B none go = rw (facts_sound L p S) (by (leaf_of (node_of p.nodes object)) refl)
     where
-      nobody : (a : Bool) → B false (on_entered refuse does (pick (a && false) (At object) (Refused NoObject)))
+      nobody : (a : Bool) → B false (on_entered refuse does (pick (a && false) (Ok object) (Err NoObject)))
       nobody true = none
       nobody false = none
 
-      by : (b : Bool) → leaf_of (node_of p.nodes object) ≡ b → B b (on_entered refuse does (pick (ltb object 64 && b) (At object) (Refused NoObject)))
+      by : (b : Bool) → leaf_of (node_of p.nodes object) ≡ b → B b (on_entered refuse does (pick (ltb object 64 && b) (Ok object) (Err NoObject)))
       by true h = rw (lt-ltb object 64 (leaf_low L p S object h)) (go h)
       by false h = nobody (ltb object 64)
 
@@ -52,7 +50,7 @@ module _ {R : Type 0} (refuse : Refusal → R) (does : ℕ → R) (L : ℕ) (p :
   leaf_does leaf = rw (facts_sound L p S, lt-ltb object 64 (leaf_low L p S object leaf), leaf)
 
 -- tests, and what comes after them
-pub by_tests : {R : Type 0} (refuse : Refusal → R) (go : R) (B : R → Type 0) (a : Against) → ((r : Refusal) → a ≡ Why r → B (refuse r))
-    → (a ≡ Fine → B go) → B (unless a refuse go)
-by_tests refuse go B (Why r) f g = f r refl
-by_tests refuse go B Fine f g = g refl
+pub by_tests : {R : Type 0} (refuse : Refusal → R) (go : R) (B : R → Type 0) (a : Checked) → ((r : Refusal) → a ≡ Err r → B (refuse r))
+    → (a ≡ Ok tt → B go) → B (unless a refuse go)
+by_tests refuse go B (Err r) f g = f r refl
+by_tests refuse go B (Ok u) f g = g refl

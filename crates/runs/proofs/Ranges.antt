@@ -1,4 +1,6 @@
 -- Read, write, commit and commit_page on a pool of private arrays: their answers, and that they leave the nodes. Assumes nothing.
+use Rattle.std.specs.Prelude.{Ok, Err}
+use Rattle.outcome.specs.Answers.{Answer, Checked}
 use mathlib.Core.Path.{◌≡◌, refl, subst}
 use mathlib.Core.Bool.{Bool}
 use mathlib.Core.List.{List, []}
@@ -10,12 +12,8 @@ use Rattle.tables.specs.Pool.{Pool}
 use Rattle.tables.specs.Tables.{node_of}
 use Rattle.frames.specs.Frames.{free_count}
 use Rattle.sound.specs.Facts.{Leaf}
-use Rattle.outcome.specs.declared.answer.Answer.{Answer}
-use Rattle.outcome.specs.declared.answer.Answer.TheVariants.{Done, Refused}
 use Rattle.outcome.specs.declared.answer.Refusal.{Refusal}
 use Rattle.outcome.specs.declared.answer.Refusal.TheVariants.{NoMemory}
-use Rattle.outcome.specs.declared.answer.Against.{Against}
-use Rattle.outcome.specs.declared.answer.Against.TheVariants.{Why, Nothing as Fine}
 use Rattle.outcome.specs.Outcome.{Outcome, refused}
 use Rattle.commit.specs.Commit.{commit_page}
 use Rattle.ranges.specs.Ranges.{against_writing, against_committing, read, write_through, write_at, write, commit_through, commit_at, commit}
@@ -36,11 +34,11 @@ use Rattle.runs.proofs.Objects.{on_leaf, leaf_does, by_tests}
 use Rattle.runs.proofs.Answered.{Answers, tests_fair, answers_done}
 
 -- what the tests found, and why they refuse
-why_tests : {a : Against} (H : Type 0) {r : Refusal} → Tests a H → a ≡ Why r → ByTests r
-why_tests H t e = subst (λ (x : Against). Tests x H) e t
+why_tests : {a : Checked} (H : Type 0) {r : Refusal} → Tests a H → a ≡ Err r → ByTests r
+why_tests H t e = subst (λ (x : Checked). Tests x H) e t
 
-fine_tests : {a : Against} {H : Type 0} → Tests a H → a ≡ Fine → H
-fine_tests {a} {H} t e = subst (λ (x : Against). Tests x H) e t
+fine_tests : {a : Checked} {H : Type 0} → Tests a H → a ≡ Ok tt → H
+fine_tests {a} {H} t e = subst (λ (x : Checked). Tests x H) e t
 
 -- so many too few that none is left
 abbrev pub Spent : Type 0 → Pool → Type 0
@@ -70,14 +68,14 @@ module _ (L : ℕ) (B : ℕ → ℕ → ℕ → ℕ) (p : Pool) (P : Private L B
   -- write
 
   module _ (list : List ℕ) (n offset : ℕ) (bytes : List ℕ) where
-    abbrev against : Against
+    abbrev against : Checked
     against = against_writing L p.nodes p.mappings list n offset (length bytes)
 
-    write_inside : against ≡ Fine → Inside L p.nodes n offset (length bytes)
+    write_inside : against ≡ Ok tt → Inside L p.nodes n offset (length bytes)
     write_inside = fine_tests (writing_tests L p.nodes n offset (length bytes) p.mappings list)
 
     write_by_lem : (X : Outcome Answer → Type 0) → ((r : Refusal) → ByTests r → X (refused p list [] r))
-        → (Leaf p.nodes n → against ≡ Fine → Writes L B p n offset bytes (write_through L p list n offset bytes) → X (write_through L p list n offset bytes))
+        → (Leaf p.nodes n → against ≡ Ok tt → Writes L B p n offset bytes (write_through L p list n offset bytes) → X (write_through L p list n offset bytes))
         → X (write L p list n offset bytes)
     unfolding write_at
     write_by_lem X stay go =
@@ -95,7 +93,7 @@ module _ (L : ℕ) (B : ℕ → ℕ → ℕ → ℕ) (p : Pool) (P : Private L B
         write_by_lem (λ r. Answers (Spent short r.pool) r.answer) (λ r t. tests_fair (Spent short p) r t)
         (λ leaf e w. ends_answers short (λ s. (leaf, e, s)) (write_ends w))
 
-    pub write_lacks : short → (write L p list n offset bytes).answer ≡ Refused NoMemory
+    pub write_lacks : short → (write L p list n offset bytes).answer ≡ Err NoMemory
     unfolding write_at
     write_lacks (leaf, fine, more) =
         rw (leaf_does (refused p list []) (λ m. write_at L p list m offset bytes) L p P.sound n leaf, fine)
@@ -120,22 +118,22 @@ module _ (L : ℕ) (B : ℕ → ℕ → ℕ → ℕ) (p : Pool) (P : Private L B
         inr (record { leaf = leaf; among = m; inside = omega arith }))
 
     -- accepted, all are
-    pub write_all : (v : ℕ) → (write L p list n offset bytes).answer ≡ Done v
+    pub write_all : (v : ℕ) → (write L p list n offset bytes).answer ≡ Ok v
         → (v ≡ length bytes) × ((write L p list n offset bytes).done ≡ length bytes)
     write_all v =
-        write_by_lem (λ r. r.answer ≡ Done v → (v ≡ length bytes) × (r.done ≡ length bytes)) (λ r t e. absurd (done_not e refl))
+        write_by_lem (λ r. r.answer ≡ Ok v → (v ≡ length bytes) × (r.done ≡ length bytes)) (λ r t e. absurd (done_not e refl))
         (λ leaf e w h. ⊎_elim (λ g. (value h g.answer, g.done)) (λ x. absurd (done_not h x.1.answer)) w.ends)
       where
-        value : {a : Answer} → a ≡ Done v → a ≡ Done (length bytes) → v ≡ length bytes
+        value : {a : Answer} → a ≡ Ok v → a ≡ Ok (length bytes) → v ≡ length bytes
         value h g = cc
 
   -- commit
 
   module _ (list : List ℕ) (n offset len : ℕ) where
-    abbrev committing : Against
+    abbrev committing : Checked
     committing = against_committing L p.nodes p.mappings list n offset len
 
-    commit_inside : committing ≡ Fine → Inside L p.nodes n offset len
+    commit_inside : committing ≡ Ok tt → Inside L p.nodes n offset len
     commit_inside = fine_tests (committing_tests L p.nodes n offset len p.mappings list)
 
     abbrev few : Type 0
@@ -151,7 +149,7 @@ module _ (L : ℕ) (B : ℕ → ℕ → ℕ → ℕ) (p : Pool) (P : Private L B
         (λ r e. tests_fair (Spent few p) r (why_tests (Inside L p.nodes n offset len) (committing_tests L p.nodes n offset len p.mappings list) e))
         (λ e. ends_answers few (λ s. (leaf, e, s)) (commit_through_lem L B p P list n offset len leaf (commit_inside e)).ends))
 
-    pub commit_lacks : few → (commit L p list n offset len).answer ≡ Refused NoMemory
+    pub commit_lacks : few → (commit L p list n offset len).answer ≡ Err NoMemory
     unfolding commit_at
     commit_lacks (leaf, fine, more) =
         rw (leaf_does (refused p list []) (λ m. commit_at L p list m offset len) L p P.sound n leaf, fine)
@@ -180,7 +178,7 @@ module _ (L : ℕ) (B : ℕ → ℕ → ℕ → ℕ) (p : Pool) (P : Private L B
             (⊎_elim (λ z. answers_done (Spent none r.pool) z.answer) (λ s. rw s.answer ((leaf, fine, s.writing, s.short), s.none)))
             g.ends
 
-    pub page_lacks : none → (commit_page L p list n page write).answer ≡ Refused NoMemory
+    pub page_lacks : none → (commit_page L p list n page write).answer ≡ Err NoMemory
     page_lacks (leaf, fine, writing, more) = page_short (page_does L B p P list n page write leaf fine) writing more
 
     pub page_nodes : (commit_page L p list n page write).pool.nodes ≡ p.nodes

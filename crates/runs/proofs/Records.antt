@@ -1,4 +1,6 @@
 -- Every call leaves a live object's size and policy. Assumes nothing.
+use Rattle.std.specs.Prelude.{Option, ℕ, Some, None}
+use Rattle.outcome.specs.Answers.{Answer}
 use mathlib.Core.Path.{◌≡◌, refl, sym, ap, ◌∙◌, subst}
 use mathlib.Core.Bool.{Bool, true, false}
 use mathlib.Core.List.{List, []}
@@ -6,15 +8,12 @@ use Prim.Native.Nat.{ℕ, ◌/◌, ◌≤◌}
 use lib.Dec.{leb}
 use lib.ListN.{get_or}
 use Rattle.logic.specs.Pick.{pick}
-use Rattle.logic.specs.declared.Found.{Found}
-use Rattle.logic.specs.declared.Found.TheVariants.{At, Nothing}
 use Rattle.logic.proofs.Means.{equal, split}
 use Rattle.node.specs.declared.Node.{Node}
 use Rattle.node.specs.Node.{leaf_of, origin_node}
 use Rattle.tables.specs.Pool.{Pool}
 use Rattle.tables.specs.Tables.{node_of, free_node_in}
 use Rattle.sound.specs.Facts.{Leaf, Sound}
-use Rattle.outcome.specs.declared.answer.Answer.{Answer}
 use Rattle.outcome.specs.declared.answer.Refusal.TheVariants.{InvalidArgs, BadPool, NoNode}
 use Rattle.sound.specs.Sound.{sound}
 use Rattle.outcome.specs.Outcome.{Outcome, refused}
@@ -48,12 +47,12 @@ module _ (L : ℕ) (p : Pool) (S : Sound L p) (o : ℕ) (live : Leaf p.nodes o) 
   kept : Kept p
   kept = same_nodes refl
 
-  leaf_kept : (size : ℕ) (f : Found) → free_node_in p.nodes ≡ f → Kept (leaf_at p size f).pool
+  leaf_kept : (size : ℕ) (f : Option ℕ) → free_node_in p.nodes ≡ f → Kept (leaf_at p size f).pool
   unfolding leaf_at
-  leaf_kept size (At i) e =
+  leaf_kept size (Some i) e =
       same_record (node_away p.nodes i o (origin_node size (get_or p.head 0 0))
       (λ d. leaf_live p.nodes o live (ap (λ (m : ℕ). (node_of p.nodes m).kind) d ∙ (found_free p.nodes S.lengths.nodes i e).kind)))
-  leaf_kept size Nothing e = kept
+  leaf_kept size None e = kept
 
   pub new-kept : (size : ℕ) → Kept (new L p size).pool
   unfolding new new_leaf

@@ -1,4 +1,5 @@
 -- What the reads of an object give, and the array it ends with, follow from its own reads and writes and its array at their start. Assumes nothing.
+use Rattle.std.specs.Prelude.{Ok, Err}
 use mathlib.Core.Path.{◌≡◌, refl, ap, ◌∙◌, subst}
 use mathlib.Core.Bool.{Bool, true, false}
 use mathlib.Core.List.{List, [], ◌∷◌}
@@ -11,7 +12,6 @@ use Rattle.logic.specs.Pick.{pick}
 use Rattle.tables.specs.Pool.{Pool}
 use Rattle.tables.specs.Tables.{node_of}
 use Rattle.sound.specs.Facts.{Leaf}
-use Rattle.outcome.specs.declared.answer.Answer.TheVariants.{Done, Refused}
 use Rattle.outcome.specs.declared.answer.Refusal.TheVariants.{OutOfRange}
 use Rattle.node.specs.Node.{cached_of}
 use Rattle.runs.specs.Runs.{Command, Result, result_of, effect, result_in, history}
@@ -45,8 +45,8 @@ got-shown : (cached : Bool) (a : List ℕ) (offset : ℕ) (buf : List ℕ) → g
 got-shown false a offset buf = refl
 got-shown true a offset buf = rw (length-replicate {A = ℕ} (length buf) 0) (by (leb (offset + length buf) (length a)))
   where
-    by : (b : Bool) → got (pick b (result_of (Done 0) 0 (take (length buf) (drop offset a))) (result_of (Refused OutOfRange) 0 buf))
-        ≡ got (pick b (result_of (Done 0) 0 (take (length buf) (drop offset a))) (result_of (Refused OutOfRange) 0 (replicate (length buf) 0)))
+    by : (b : Bool) → got (pick b (result_of (Ok 0) 0 (take (length buf) (drop offset a))) (result_of (Err OutOfRange) 0 buf))
+        ≡ got (pick b (result_of (Ok 0) 0 (take (length buf) (drop offset a))) (result_of (Err OutOfRange) 0 (replicate (length buf) 0)))
     by true = refl
     by false = refl
 

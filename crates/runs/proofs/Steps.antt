@@ -1,4 +1,6 @@
 -- One call of a run, whichever it is, keeps the invariant. Assumes nothing.
+use Rattle.std.specs.Prelude.{Ok, Err}
+use Rattle.outcome.specs.Answers.{Answer}
 use mathlib.Core.Path.{◌≡◌, refl, sym, ap, ◌∙◌}
 use mathlib.Core.List.{List, []}
 use mathlib.Core.Logic.{◌⊎◌, inl, inr}
@@ -14,8 +16,6 @@ use Rattle.logic.proofs.Means.{equal, split}
 use Rattle.tables.specs.Pool.{Pool}
 use Rattle.tables.specs.Tables.{node_of}
 use Rattle.sound.specs.Facts.{Leaf}
-use Rattle.outcome.specs.declared.answer.Answer.{Answer}
-use Rattle.outcome.specs.declared.answer.Answer.TheVariants.{Done, Refused}
 use Rattle.outcome.specs.declared.answer.Refusal.{Refusal}
 use Rattle.outcome.specs.Outcome.{Outcome, refused}
 use Rattle.pool.specs.Calls.{new}
@@ -82,7 +82,7 @@ module _ (L : ℕ) (A : Arrays) (p : Pool) (I : Isolated L A p) where
       (λ ne. rw (blank-other B i m j k ne, given-other A i (replicate (pages * L) 0) m ne))
 
   blank_isolated : (pages : ℕ) (a : Answer) (q : Pool) → Gave p (BlankBorn L B p pages) a q → Isolated L (new_by L A pages a) q
-  blank_isolated pages (Done i) q g =
+  blank_isolated pages (Ok i) q g =
       record {
         private = private_inside L (blank_array B i) (paged L (with_array A i (replicate (pages * L) 0))) q (λ m j k l h. blank_at_lem pages i m j k)
             g.private;
@@ -93,7 +93,7 @@ module _ (L : ℕ) (A : Arrays) (p : Pool) (I : Isolated L A p) where
             let was : Leaf p.nodes n = sym (g.others n ne) ∙ leaf in
             rw (given-other A i (replicate (pages * L) 0) n ne, g.sizes n was) (I.lengths n was));
       }
-  blank_isolated pages (Refused r) q g = rw g I
+  blank_isolated pages (Err r) q g = rw g I
 
   -- create_child
 
@@ -129,9 +129,9 @@ module _ (L : ℕ) (A : Arrays) (p : Pool) (I : Isolated L A p) where
           (λ e. rw (e, clone_child B n c (offset / L) j k, given_same A c part) (clone_byte j k (low e) h))
           (λ ne. rw (clone_other B n c (offset / L) m j k ne, given-other A c part m ne))
 
-    clone_isolated : (a : Answer) (q : Pool) → ((c : ℕ) → a ≡ Done c → Fits) → Gave p (CloneBorn L B p n (offset / L) (len / L)) a q
+    clone_isolated : (a : Answer) (q : Pool) → ((c : ℕ) → a ≡ Ok c → Fits) → Gave p (CloneBorn L B p n (offset / L) (len / L)) a q
         → Isolated L (child_by A n offset len a) q
-    clone_isolated (Done c) q f g =
+    clone_isolated (Ok c) q f g =
         record {
           private = private_inside L (clone_array B n c (offset / L)) (paged L (with_array A c part)) q
               (λ m j k l h. clone_at (f c refl) c m j k (λ e. let z : j < (node_of q.nodes c).size = rw e at l in rw g.size at z) h) g.private;
@@ -142,19 +142,19 @@ module _ (L : ℕ) (A : Arrays) (p : Pool) (I : Isolated L A p) where
               let was : Leaf p.nodes m = sym (g.others m ne) ∙ leaf in
               rw (given-other A c part m ne, g.sizes m was) (I.lengths m was));
         }
-    clone_isolated (Refused r) q f g = rw g I
+    clone_isolated (Err r) q f g = rw g I
 
-    pub child_fits : (list : List ℕ) (c : ℕ) → (create_child L p list n offset len).answer ≡ Done c → Fits
+    pub child_fits : (list : List ℕ) (c : ℕ) → (create_child L p list n offset len).answer ≡ Ok c → Fits
     unfolding child_at
     child_fits list c =
-        on_leaf (refused p list []) (λ m. child_at L p list m offset len) L p I.private.sound n (λ (s : Outcome Answer). s.answer ≡ Done c → Fits)
+        on_leaf (refused p list []) (λ m. child_at L p list m offset len) L p I.private.sound n (λ (s : Outcome Answer). s.answer ≡ Ok c → Fits)
         (λ e. no e)
         (λ leaf.
-        by_tests (refused p list []) (number_child p list n (offset / L) (len / L)) (λ (s : Outcome Answer). s.answer ≡ Done c → Fits)
+        by_tests (refused p list []) (number_child p list n (offset / L) (len / L)) (λ (s : Outcome Answer). s.answer ≡ Ok c → Fits)
         (against_child L (node_of p.nodes n) offset len)
         (λ r e h. no h) (λ e h. record { leaf = leaf; allows = allows L (node_of p.nodes n) offset len e }))
       where
-        no : {r : Refusal} → Refused r ≡ Done c → Fits
+        no : {r : Refusal} → ◌≡◌ {A = Answer} (Err r) (Ok c) → Fits
         no e = absurd (let z : ◌≡◌ {A = ℕ} 0 1 = cc in omega arith)
 
   -- write

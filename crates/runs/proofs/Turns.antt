@@ -1,4 +1,6 @@
 -- One call of a run, whichever it is: how it is answered, and what it leaves of a live object. Assumes nothing.
+use Rattle.std.specs.Prelude.{Ok, Err}
+use Rattle.outcome.specs.Answers.{Answer}
 use mathlib.Core.Path.{◌≡◌, refl, ap, ◌∙◌}
 use mathlib.Core.Bool.{Bool, true, false}
 use mathlib.Core.List.{List}
@@ -12,8 +14,6 @@ use Rattle.node.specs.Node.{leaf_of}
 use Rattle.tables.specs.Pool.{Pool}
 use Rattle.tables.specs.Tables.{node_of}
 use Rattle.sound.specs.Facts.{Leaf}
-use Rattle.outcome.specs.declared.answer.Answer.{Answer}
-use Rattle.outcome.specs.declared.answer.Answer.TheVariants.{Done, Refused}
 use Rattle.outcome.specs.declared.answer.Refusal.TheVariants.{NoMemory}
 use Rattle.pool.specs.Calls.{new}
 use Rattle.child.specs.Child.{create_child}
@@ -46,7 +46,7 @@ module _ (L : ℕ) (A : Arrays) (p : Pool) (I : Isolated L A p) where
   turn_answers (Write list n offset bytes) = write_answers L B p I.private list n offset bytes
   turn_answers (Also c) = aside_answers L B p I.private c
 
-  pub turn_lacks : (c : Command) → TooFew L p c → (effect L p c).answer ≡ Refused NoMemory
+  pub turn_lacks : (c : Command) → TooFew L p c → (effect L p c).answer ≡ Err NoMemory
   unfolding effect
   turn_lacks (New pages) l = absurd l
   turn_lacks (Child list n offset len) l = absurd l
@@ -67,12 +67,12 @@ module _ (L : ℕ) (A : Arrays) (p : Pool) (I : Isolated L A p) where
       split (equal o i) (λ e. rw (e, eq-eqb i i refl) g.leaf) (λ ne. rw (ne_eqb o i ne) (g.others o ne))
 
   blank-live : (o pages : ℕ) (a : Answer) (q : Pool) → Gave p (BlankBorn L B p pages) a q → Lives o (named o a) q
-  blank-live o pages (Done i) q g = born-live o g
-  blank-live o pages (Refused r) q g = stay_live o q (ap (λ (x : Pool). x.nodes) g)
+  blank-live o pages (Ok i) q g = born-live o g
+  blank-live o pages (Err r) q g = stay_live o q (ap (λ (x : Pool). x.nodes) g)
 
   clone_live : (o n first pages : ℕ) (a : Answer) (q : Pool) → Gave p (CloneBorn L B p n first pages) a q → Lives o (named o a) q
-  clone_live o n first pages (Done i) q g = born-live o g
-  clone_live o n first pages (Refused r) q g = stay_live o q (ap (λ (x : Pool). x.nodes) g)
+  clone_live o n first pages (Ok i) q g = born-live o g
+  clone_live o n first pages (Err r) q g = stay_live o q (ap (λ (x : Pool). x.nodes) g)
 
   pub turn-live : (o : ℕ) (c : Command) → Lives o (makes o c (effect L p c).answer) (effect L p c).pool
   unfolding effect
@@ -100,13 +100,13 @@ module _ (L : ℕ) (A : Arrays) (p : Pool) (I : Isolated L A p) where
     taken i free e = leaf_live p.nodes o live (ap (λ (m : ℕ). (node_of p.nodes m).kind) e ∙ free)
 
     blank_keeps : (pages : ℕ) (a : Answer) (q : Pool) → Gave p (BlankBorn L B p pages) a q → new_by L A pages a o ≡ A o
-    blank_keeps pages (Done x) q g = given-other A x (replicate (pages * L) 0) o (taken x g.free)
-    blank_keeps pages (Refused r) q g = refl
+    blank_keeps pages (Ok x) q g = given-other A x (replicate (pages * L) 0) o (taken x g.free)
+    blank_keeps pages (Err r) q g = refl
 
     clone_keeps : (n offset len : ℕ) (a : Answer) (q : Pool) → Gave p (CloneBorn L B p n (offset / L) (len / L)) a q
         → child_by A n offset len a o ≡ A o
-    clone_keeps n offset len (Done x) q g = given-other A x (take len (drop offset (A n))) o (taken x g.free)
-    clone_keeps n offset len (Refused r) q g = refl
+    clone_keeps n offset len (Ok x) q g = given-other A x (take len (drop offset (A n))) o (taken x g.free)
+    clone_keeps n offset len (Err r) q g = refl
 
     pub turn_keeps : (c : Command) → ((list : List ℕ) (offset : ℕ) (bytes : List ℕ) → c ≡ Write list o offset bytes → ⊥)
         → array_by L A c (result_in (effect L p c)) o ≡ A o

@@ -1,9 +1,8 @@
 -- Each object's array, from a run's history alone: what was called, what was answered, how many bytes were done. An array is its bytes, and its
 -- length is the object's.
-use Rattle.std.specs.Prelude.{Bool, true, false, List, [], ◌∷◌, ◌++◌, ℕ, ◌+◌, ◌*◌, eqb, leb, length, take, drop, replicate}
+use Rattle.std.specs.Prelude.{Bool, true, false, List, [], ◌∷◌, ◌++◌, ℕ, ◌+◌, ◌*◌, eqb, leb, length, take, drop, replicate, Ok, Err}
+use Rattle.outcome.specs.Answers.{Answer}
 use Rattle.logic.specs.Pick.{pick}
-use Rattle.outcome.specs.declared.answer.Answer.{Answer}
-use Rattle.outcome.specs.declared.answer.Answer.TheVariants.{Done, Refused}
 use Rattle.outcome.specs.declared.answer.Refusal.TheVariants.{OutOfRange, BadState, NoObject}
 use Rattle.tables.specs.Pool.{Pool}
 use Rattle.runs.specs.Runs.{Command, Result, result_of, Event, history_of}
@@ -27,13 +26,13 @@ overwritten a offset bytes done = take offset a ++ take done bytes ++ drop (offs
 
 -- new gives an object zeros
 abbrev pub new_by : ℕ → Arrays → ℕ → Answer → Arrays
-new_by L A pages (Done i) = with_array A i (replicate (pages * L) 0)
-new_by L A pages (Refused r) = A
+new_by L A pages (Ok i) = with_array A i (replicate (pages * L) 0)
+new_by L A pages (Err r) = A
 
 -- create_child copies the named range of object n, and nothing before or after it
 abbrev pub child_by : Arrays → ℕ → ℕ → ℕ → Answer → Arrays
-child_by A n offset len (Done c) = with_array A c (take len (drop offset (A n)))
-child_by A n offset len (Refused r) = A
+child_by A n offset len (Ok c) = with_array A c (take len (drop offset (A n)))
+child_by A n offset len (Err r) = A
 
 -- a write, refused or not, puts the bytes that it calls done; nothing else changes an array
 abbrev pub array_by : ℕ → Arrays → Command → Result → Arrays
@@ -53,8 +52,8 @@ arrays_of L p run = arrays_after L nobody (history_of L p run)
 
 -- the call made object o
 abbrev pub named : ℕ → Answer → Bool
-named o (Done i) = eqb o i
-named o (Refused r) = false
+named o (Ok i) = eqb o i
+named o (Err r) = false
 
 abbrev pub makes : ℕ → Command → Answer → Bool
 makes o (New pages) a = named o a
@@ -74,15 +73,15 @@ abbrev pub read_array : Bool → Bool → List ℕ → ℕ → List ℕ → Resu
 read_array live cached a offset buf =
     pick live
     (pick cached
-    (pick (leb (offset + length buf) (length a)) (result_of (Done 0) 0 (take (length buf) (drop offset a)))
-    (result_of (Refused OutOfRange) 0 buf))
-    (result_of (Refused BadState) 0 buf))
-    (result_of (Refused NoObject) 0 buf)
+    (pick (leb (offset + length buf) (length a)) (result_of (Ok 0) 0 (take (length buf) (drop offset a)))
+    (result_of (Err OutOfRange) 0 buf))
+    (result_of (Err BadState) 0 buf))
+    (result_of (Err NoObject) 0 buf)
 
 -- the bytes that an accepted call gave
 abbrev pub bytes_by : Answer → List ℕ → List ℕ
-bytes_by (Done v) buf = buf
-bytes_by (Refused r) buf = []
+bytes_by (Ok v) buf = buf
+bytes_by (Err r) buf = []
 
 abbrev pub bytes_in : Result → List ℕ
 bytes_in r = bytes_by r.answer r.buf

@@ -1,9 +1,8 @@
 -- When a call is refused with NO_MEMORY.
-use Rattle.std.specs.Prelude.{◌≡◌, true, ℕ, ◌/◌, ◌<◌, length}
+use Rattle.std.specs.Prelude.{◌≡◌, true, ℕ, ◌/◌, ◌<◌, length, Ok}
 use Rattle.tables.specs.Pool.{Pool}
 use Rattle.frames.specs.Frames.{free_count}
 use Rattle.sound.specs.Facts.{Leaf}
-use Rattle.outcome.specs.declared.answer.Against.TheVariants.{Nothing as Fine}
 use Rattle.commit.specs.Commit.{page_refusal}
 use Rattle.ranges.specs.Ranges.{against_writing, against_committing}
 use Rattle.lookups.specs.Need.{need}
@@ -19,9 +18,9 @@ NeedsMore p n first pages = free_count p.used < needs p.nodes p.pages n first pa
 -- a commit, or a commit_page for writing, of a live object: its tests hold and its pages need more
 abbrev pub TooFewFor : ℕ → Pool → Aside → Type 0
 TooFewFor L p (Commit list n offset len) =
-    Leaf p.nodes n × (against_committing L p.nodes p.mappings list n offset len ≡ Fine) × NeedsMore p n (offset / L) (len / L)
+    Leaf p.nodes n × (against_committing L p.nodes p.mappings list n offset len ≡ Ok tt) × NeedsMore p n (offset / L) (len / L)
 TooFewFor L p (CommitPage list n page write) =
-    Leaf p.nodes n × (page_refusal p.nodes p.mappings list n page write ≡ Fine) × (write ≡ true)
+    Leaf p.nodes n × (page_refusal p.nodes p.mappings list n page write ≡ Ok tt) × (write ≡ true)
     × (free_count p.used < need p.nodes p.pages n page)
 TooFewFor L p (Len n) = ⊥
 TooFewFor L p (Peek zero n page) = ⊥
@@ -32,7 +31,7 @@ TooFewFor L p (Remove n mapping) = ⊥
 -- or a write; no other call takes a frame
 abbrev pub TooFew : ℕ → Pool → Command → Type 0
 TooFew L p (Write list n offset bytes) =
-    Leaf p.nodes n × (against_writing L p.nodes p.mappings list n offset (length bytes) ≡ Fine)
+    Leaf p.nodes n × (against_writing L p.nodes p.mappings list n offset (length bytes) ≡ Ok tt)
     × NeedsMore p n (offset / L) (touched L offset (length bytes))
 TooFew L p (Also c) = TooFewFor L p c
 TooFew L p (New pages) = ⊥

@@ -1,7 +1,7 @@
 -- An object's own part of a history: its reads and its writes.
 use Rattle.std.specs.Prelude.{List, [], ◌∷◌, ℕ, eqb, length}
+use Rattle.outcome.specs.Answers.{Answer}
 use Rattle.logic.specs.Pick.{pick}
-use Rattle.outcome.specs.declared.answer.Answer.{Answer}
 use Rattle.runs.specs.Runs.{Command, Result, result_of, Event}
 use Rattle.runs.specs.Runs.Command.{New, Child, Read, Write, Also}
 use Rattle.runs.specs.Arrays.{bytes_in}

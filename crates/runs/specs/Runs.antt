@@ -1,8 +1,7 @@
 -- Runs of calls on a pool of pages of L bytes: any calls, in any order, refused ones among them.
-use Rattle.std.specs.Prelude.{Bool, List, [], ◌∷◌, ℕ}
+use Rattle.std.specs.Prelude.{Bool, List, [], ◌∷◌, ℕ, Ok}
+use Rattle.outcome.specs.Answers.{Answer}
 use Rattle.tables.specs.Pool.{Pool}
-use Rattle.outcome.specs.declared.answer.Answer.{Answer}
-use Rattle.outcome.specs.declared.answer.Answer.TheVariants.{Done}
 use Rattle.outcome.specs.Outcome.{Outcome, outcome, reply_of}
 use Rattle.pool.specs.Calls.{start, new, len}
 use Rattle.mapped.specs.Mapped.{append_mapping, remove_mapping}
@@ -35,7 +34,7 @@ unfoldable pub aside_effect : ℕ → Pool → Aside → Outcome Answer
 aside_effect L p (Commit list n offset bytes) = commit L p list n offset bytes
 aside_effect L p (CommitPage list n page writing) = commit_page L p list n page writing
 aside_effect L p (Len n) = len L p n
-aside_effect L p (Peek zero n page) = outcome (reply_of (Done 0)) p [] (peek L p zero n page)
+aside_effect L p (Peek zero n page) = outcome (reply_of (Ok 0)) p [] (peek L p zero n page)
 aside_effect L p (Forecast n offset bytes) = forecast L p n offset bytes
 aside_effect L p (Append n first pages) = append_mapping L p n first pages
 aside_effect L p (Remove n mapping) = remove_mapping L p n mapping

@@ -1,5 +1,5 @@
 -- What is proved of runs, from top to bottom; proofs/Theorems.antt proves each, and assumes nothing.
-use Rattle.std.specs.Prelude.{◌≡◌, true, false, List, [], ◌∷◌, ◌++◌, ℕ, ◌*◌, length, replicate}
+use Rattle.std.specs.Prelude.{◌≡◌, true, false, List, [], ◌∷◌, ◌++◌, ℕ, ◌*◌, length, replicate, Ok, Err}
 use Rattle.logic.specs.Pick.{pick}
 use Rattle.node.specs.Node.{leaf_of, cached_of}
 use Rattle.tables.specs.Pool.{Pool}
@@ -7,7 +7,6 @@ use Rattle.tables.specs.Tables.{node_of}
 use Rattle.frames.specs.Frames.{free_count}
 use Rattle.sound.specs.Facts.{Leaf, Lengths}
 use Rattle.sound.specs.Sound as S
-use Rattle.outcome.specs.declared.answer.Answer.TheVariants.{Done, Refused}
 use Rattle.outcome.specs.declared.answer.Refusal.TheVariants.{NoMemory, BadPool, NoObject, Stopped}
 use Rattle.pool.specs.Calls.{start}
 use Rattle.peek.specs.Peek.{zero_page_of}
@@ -27,7 +26,7 @@ pub record Promises (L : ℕ) (A : Arrays) (p : Pool) : Type 0 where
   -- an object's size, in bytes, is its array's length
   pub sizes : (n : ℕ) → Leaf p.nodes n → (node_of p.nodes n).size * L ≡ length (A n)
   -- len answers it
-  pub lens : (n : ℕ) → (effect L p (Also (Len n))).answer ≡ pick (leaf_of (node_of p.nodes n)) (Done (length (A n))) (Refused NoObject)
+  pub lens : (n : ℕ) → (effect L p (Also (Len n))).answer ≡ pick (leaf_of (node_of p.nodes n)) (Ok (length (A n))) (Err NoObject)
   -- a read of any object, at any offset and into any buffer, is what `read_array` says of the array
   pub reads : (n offset : ℕ) (buf : List ℕ)
       → result_in (effect L p (Read n offset buf)) ≡ read_array (leaf_of (node_of p.nodes n)) (cached_of (node_of p.nodes n)) (A n) offset buf
@@ -36,15 +35,15 @@ pub record Promises (L : ℕ) (A : Arrays) (p : Pool) : Type 0 where
       ≡ pick (zero_page_of L zero) (bytes_in (read_array (leaf_of (node_of p.nodes n)) (cached_of (node_of p.nodes n)) (A n) (page * L) (replicate L 0))) []
   -- a write that is accepted has done all its bytes
   pub writes : (list : List ℕ) (n offset : ℕ) (bytes : List ℕ) (v : ℕ) → let r = effect L p (Write list n offset bytes) in
-      r.answer ≡ Done v → (v ≡ length bytes) × (r.done ≡ length bytes)
+      r.answer ≡ Ok v → (v ≡ length bytes) × (r.done ≡ length bytes)
   -- a live object's array is changed by its own writes alone
   pub own_writes : (o : ℕ) → Leaf p.nodes o → (c : Command) → ((list : List ℕ) (offset : ℕ) (bytes : List ℕ) → c ≡ Write list o offset bytes → ⊥)
       → array_by L A c (result_in (effect L p c)) o ≡ A o
-  pub never_bad_pool : (c : Command) → (effect L p c).answer ≡ Refused BadPool → ⊥
-  pub never_stopped : (c : Command) → (effect L p c).answer ≡ Refused Stopped → ⊥
+  pub never_bad_pool : (c : Command) → (effect L p c).answer ≡ Err BadPool → ⊥
+  pub never_stopped : (c : Command) → (effect L p c).answer ≡ Err Stopped → ⊥
   -- NO_MEMORY exactly if the call's pages need more frames than are free; and then it leaves none free
-  pub no_memory : (c : Command) → (effect L p c).answer ≡ Refused NoMemory → TooFew L p c × (free_count (effect L p c).pool.used ≡ 0)
-  pub too_few : (c : Command) → TooFew L p c → (effect L p c).answer ≡ Refused NoMemory
+  pub no_memory : (c : Command) → (effect L p c).answer ≡ Err NoMemory → TooFew L p c × (free_count (effect L p c).pool.used ≡ 0)
+  pub too_few : (c : Command) → TooFew L p c → (effect L p c).answer ≡ Err NoMemory
 
 -- 2. Any pool that has the invariant, whatever its past
 

@@ -10,9 +10,8 @@ use Rattle.node.specs.Node.{cached_of, contains_of}
 use Rattle.tables.specs.Pool.{Pool}
 use Rattle.tables.specs.Tables.{node_of}
 use Rattle.outcome.specs.Told.{Told, told_of}
-use Rattle.lookup.specs.declared.Committed.{Committed}
 use Rattle.lookup.specs.Work.{Work}
-use Rattle.lookup.specs.Commit.{commit_leaf}
+use Rattle.lookup.specs.Commit.{commit_leaf, Committed}
 use Rattle.sound.specs.Facts.{Leaf}
 use Rattle.soundness.proofs.Soundness.{facts_sound}
 use Rattle.lookup.specs.declared.End.{End}

@@ -1,4 +1,6 @@
 -- A buffer filled whole is the frame's bytes, or the zero page. Assumes nothing.
+use Rattle.std.specs.Prelude.{Ok, Some, None}
+use Rattle.lookup.specs.Commit.{Committed}
 use mathlib.Core.Path.{◌≡◌, sym, ap, ◌∙◌}
 use mathlib.Core.Bool.{true}
 use mathlib.Core.List.{List}
@@ -12,8 +14,6 @@ use Rattle.logic.specs.Below.{all_below, copied, zeroed}
 use Rattle.logic.proofs.Laws.{and_left, and_right, and_both, all_below_lem, below_all, copied-length, zeroed-length}
 use Rattle.blocks.specs.declared.BlockRange.{BlockRange}
 use Rattle.frames.specs.Frames.{pasted_at, blank_at}
-use Rattle.lookup.specs.declared.Committed.{Committed}
-use Rattle.lookup.specs.declared.Committed.TheVariants.{Frame, ZeroFrame}
 use Rattle.lookup.specs.declared.End.{End}
 use Rattle.lookup.specs.declared.End.TheVariants.{Has, Bare, Tired}
 use Rattle.page.specs.Pages.{fetched_by}
@@ -89,7 +89,7 @@ module _ (L F : ℕ) (m : List ℕ) (memory : length m ≡ F * L) (zero : List �
   shown-length Tired z a = absurd a
 
   module _ (buf : List ℕ) (whole : length buf ≡ L) (b : BlockRange) (begin : b.begin ≡ 0) (end : b.end ≡ L) where
-    frame_filled : (f : ℕ) → f < F → frame_bytes L m f ≡ fetched_by L 0 b (Frame f) m buf
+    frame_filled : (f : ℕ) → f < F → frame_bytes L m f ≡ fetched_by L 0 b (Ok (Some f)) m buf
     unfolding fetched_by pasted_at
     frame_filled f l =
         let e : f * L + 0 ≡ f * L = omega arith in
@@ -98,7 +98,7 @@ module _ (L F : ℕ) (m : List ℕ) (memory : length m ≡ F * L) (zero : List �
         rw (begin, end, e, d, le-leb (0 + L) (length buf) (omega arith), le-leb (f * L + L) (length m) r)
         (frame_is L m f r ∙ sym (copied_whole buf m (f * L) L whole r))
 
-    zero_filled : zero ≡ fetched_by L 0 b ZeroFrame m buf
+    zero_filled : zero ≡ fetched_by L 0 b (Ok None) m buf
     unfolding fetched_by blank_at
     zero_filled =
         let d : L - 0 ≡ L = omega arith in

@@ -1,4 +1,5 @@
 -- Peek shows the bytes that a read of the page gives; it shows none exactly where that read is refused or the zero page isn't L zeros. Assumes nothing.
+use Rattle.std.specs.Prelude.{Ok, Err}
 use mathlib.Core.Path.{◌≡◌, refl, ap}
 use mathlib.Core.Bool.{Bool, true, false}
 use mathlib.Core.List.{List, []}
@@ -12,15 +13,10 @@ use Rattle.sound.specs.Facts.{Leaf, Sound}
 use Rattle.soundness.proofs.Soundness.{sound_facts}
 use Rattle.lookup.specs.Mode.{today, place_of}
 use Rattle.lookup.specs.Descent.{walk}
-use Rattle.outcome.specs.declared.answer.Answer.TheVariants.{Done, Refused}
 use Rattle.outcome.specs.declared.answer.Refusal.{Refusal}
 use Rattle.outcome.specs.declared.answer.Refusal.TheVariants.{BadPool, NoObject}
-use Rattle.outcome.specs.declared.answer.Against.{Against}
-use Rattle.outcome.specs.declared.answer.Against.TheVariants.{Why, Nothing as Fine}
-use Rattle.outcome.specs.Answers.{unless}
-use Rattle.outcome.specs.declared.answer.Answer.{Answer}
+use Rattle.outcome.specs.Answers.{unless, Checked, Answer}
 use Rattle.outcome.specs.Outcome.{Outcome, refused}
-use Rattle.pool.specs.declared.entering.Entered.TheVariants.{Refused as Unentered}
 use Rattle.pool.specs.Calls.{entered, on_entered, on_object}
 use Rattle.pool.proofs.Laws.{enters}
 use Rattle.page.specs.Pages.{read_of}
@@ -47,7 +43,7 @@ module _ (L : ℕ) (p : Pool) (zero : List ℕ) (object page : ℕ) where
   unfolding peek place
   peek_zero e = rw e
 
-  pub peek_unentered : {r : Refusal} → entered L p object ≡ Unentered r → peek L p zero object page ≡ []
+  pub peek_unentered : {r : Refusal} → entered L p object ≡ Err r → peek L p zero object page ≡ []
   unfolding on_object on_entered
   peek_unentered e = nowhere (rw e)
 
@@ -61,11 +57,11 @@ module _ (L : ℕ) (p : Pool) (zero : List ℕ) (object page : ℕ) (buf : List 
   given = read L p object (page * L) buf
 
   module _ (good : zero_page_of L zero ≡ true) where
-    node_by : Sound L p → Leaf p.nodes object → (a : Against)
+    node_by : Sound L p → Leaf p.nodes object → (a : Checked)
         → Peeked L (shown_at L p.memory zero (unless a (λ r. Nowhere) (shown_by (walk (today L p.nodes p.mappings) 64 p.pages (place_of object page object)).end)))
         (unless a (refused p [] buf) (filled p (read_range L p.nodes p.mappings object (page * L) (read_of p.pages p.used p.memory buf))))
-    node_by s leaf (Why r) = nothing r refl refl
-    node_by s leaf Fine = page-read L p s object page leaf zero good buf whole
+    node_by s leaf (Err r) = nothing r refl refl
+    node_by s leaf (Ok tt) = page-read L p s object page leaf zero good buf whole
 
     pub peek-called : Peeked L shown given
     unfolding peek place on_object on_entered place_at read_at
@@ -76,14 +72,14 @@ module _ (L : ℕ) (p : Pool) (zero : List ℕ) (object page : ℕ) (buf : List 
         L p object (λ s. nothing BadPool refl refl) (nothing NoObject refl refl)
         (λ s l leaf. rw whole (node_by (sound_facts L p s) leaf (against_reading L p.nodes object (page * L) L))))
 
-    pub peek_is_read : (v : ℕ) → given.answer ≡ Done v → shown ≡ given.buf
+    pub peek_is_read : (v : ℕ) → given.answer ≡ Ok v → shown ≡ given.buf
     peek_is_read v h = by peek-called
       where
         by : Peeked L shown given → shown ≡ given.buf
         by (nothing why e n) = let z : ◌≡◌ {A = ℕ} 0 1 = cc in absurd (omega arith)
         by (bytes e b l) = b
 
-  pub peek-refused : (why : Refusal) → given.answer ≡ Refused why → shown ≡ []
+  pub peek-refused : (why : Refusal) → given.answer ≡ Err why → shown ≡ []
   peek-refused why h = by (zero_page_of L zero) refl
     where
       called : Peeked L shown given → shown ≡ []

@@ -1,4 +1,5 @@
 -- A read of one whole page is one step, and it gives what the walk shows. Assumes nothing.
+use Rattle.std.specs.Prelude.{Ok, Some}
 use mathlib.Core.Path.{◌≡◌, refl, sym, ap, ◌∙◌}
 use mathlib.Core.Bool.{true, false}
 use mathlib.Core.List.{List, []}
@@ -10,19 +11,16 @@ use lib.Seq.{ext_get_or}
 use Rattle.logic.proofs.Means.{less, split}
 use Rattle.blocks.specs.declared.BlockIter.{BlockIter}
 use Rattle.blocks.specs.declared.BlockRange.{BlockRange}
-use Rattle.blocks.specs.declared.Next.TheVariants.{Block}
 use Rattle.blocks.specs.Blocks.{iter_of, next_of, count_of}
 use Rattle.tables.specs.Pool.{Pool}
 use Rattle.outcome.specs.Told.{told_of}
-use Rattle.lookup.specs.declared.Committed.{Committed}
 use Rattle.lookup.specs.Work.{work_of}
-use Rattle.lookup.specs.Commit.{Committing, commit_leaf}
+use Rattle.lookup.specs.Commit.{Committing, commit_leaf, Committed}
 use Rattle.sound.specs.Facts.{Leaf, Sound}
 use Rattle.lookup.specs.declared.End.{End}
 use Rattle.lookup.specs.declared.End.TheVariants.{Has, Bare, Tired}
 use Rattle.lookup.specs.Mode.{today, place_of}
 use Rattle.lookup.specs.Descent.{walk}
-use Rattle.outcome.specs.declared.answer.Against.TheVariants.{Nothing as Fine}
 use Rattle.page.specs.Each.{Part, part_of, onward, each}
 use Rattle.page.specs.Pages.{against_read, Read, read_of, look_read, read_through, read_by, read_page}
 use Rattle.ranges.specs.Ranges.{filled, read_range}
@@ -38,7 +36,7 @@ use Rattle.shows.proofs.Bytes.{shown-length, shown-filled}
 record Whole (L page : ℕ) : Type 0 where
   block : BlockRange
   rest : BlockIter
-  next : next_of L (iter_of (page * L) (page * L + L)) ≡ Block block rest
+  next : next_of L (iter_of (page * L) (page * L + L)) ≡ Some (block, rest)
   number : block.block ≡ page
   begin : block.begin ≡ 0
   end : block.end ≡ L
@@ -64,11 +62,11 @@ whole_page L page one =
 
 -- a run of one step that isn't refused
 
-each-one : {C S : Type 0} (step : C → S → Part C S) (c : C) (s : S) → (step c s).why ≡ Fine → each step 1 c s ≡ part_of Fine (step c s).rest (step c s).state
+each-one : {C S : Type 0} (step : C → S → Part C S) (c : C) (s : S) → (step c s).why ≡ Ok tt → each step 1 c s ≡ part_of (Ok tt) (step c s).rest (step c s).state
 unfolding each onward
 each-one step c s h = rw h
 
-fine : (F : ℕ) (x : End) (z : Committed) → ReadAs F x z → against_read z ≡ Fine
+fine : (F : ℕ) (x : End) (z : Committed) → ReadAs F x z → against_read z ≡ Ok tt
 fine F (Has s) z a = rw a.0
 fine F Bare z a = rw a
 fine F Tired z a = absurd a
@@ -91,16 +89,16 @@ module _ (L : ℕ) (one : 1 ≤ L) (p : Pool) (sound : Sound L p) (n page : ℕ)
   abbrev gone : Part BlockIter Read
   gone = read_through L 0 w.block (iter_of (page * L) (page * L + L)) w.rest buf (look_read L p.nodes p.mappings p.pages p.used p.memory n page)
 
-  gone_fine : gone.why ≡ Fine
+  gone_fine : gone.why ≡ Ok tt
   unfolding read_through look_read
   gone_fine = fine (length p.used) (walk (today L p.nodes p.mappings) 64 p.pages (place_of n page n)).end looked.answer sees.answer
 
-  range_is : read_range L p.nodes p.mappings n (page * L) (read_of p.pages p.used p.memory buf) ≡ part_of Fine gone.rest gone.state
+  range_is : read_range L p.nodes p.mappings n (page * L) (read_of p.pages p.used p.memory buf) ≡ part_of (Ok tt) gone.rest gone.state
   unfolding read_range
   range_is =
       rw (whole, w.count)
       (each-one (read_page L p.nodes p.mappings n (page * L)) (iter_of (page * L) (page * L + L)) (read_of p.pages p.used p.memory buf) (ap (λ (q : Part BlockIter Read). q.why) step_is ∙ gone_fine)
-      ∙ ap (λ (q : Part BlockIter Read). part_of Fine q.rest q.state) step_is)
+      ∙ ap (λ (q : Part BlockIter Read). part_of (Ok tt) q.rest q.state) step_is)
 
   gone_bytes : shown_at L p.memory zero (shown_by (walk (today L p.nodes p.mappings) 64 p.pages (place_of n page n)).end) ≡ gone.state.buf
   unfolding read_through look_read

@@ -1,25 +1,22 @@
 -- What the walk for reading finds next to what page lookup answers, and what peek shows next to what a read gives. A peek is a function to a list
 -- of bytes: it leaves no pool, so nothing is moved by it.
-use Rattle.std.specs.Prelude.{◌≡◌, List, [], ℕ, ◌*◌, ◌<◌, length, get_or}
+use Rattle.std.specs.Prelude.{◌≡◌, List, [], ℕ, ◌*◌, ◌<◌, length, get_or, Ok, Some, None, Err}
+use Rattle.outcome.specs.Answers.{Answer}
 use Rattle.logic.specs.Pick.{pick}
 use Rattle.tables.specs.Pool.{Pool}
 use Rattle.lookup.specs.declared.End.{End}
 use Rattle.lookup.specs.declared.End.TheVariants.{Has, Bare, Tired}
-use Rattle.lookup.specs.declared.Committed.{Committed}
-use Rattle.lookup.specs.declared.Committed.TheVariants.{Frame, ZeroFrame}
 use Rattle.lookup.specs.Work.{Work}
-use Rattle.lookup.specs.Commit.{Committing}
-use Rattle.outcome.specs.declared.answer.Answer.TheVariants.{Done, Refused}
+use Rattle.lookup.specs.Commit.{Committing, Committed}
 use Rattle.outcome.specs.declared.answer.Refusal.{Refusal}
-use Rattle.outcome.specs.declared.answer.Answer.{Answer}
 use Rattle.outcome.specs.Outcome.{Outcome}
 use Rattle.ranges.specs.Ranges.{read}
 use Rattle.peek.specs.Peek.{zero_page_of}
 
 -- lookup answers the frame found, one of F, whether it would move or not, or zeros; the walk never ends without
 abbrev pub ReadAs : ℕ → End → Committed → Type 0
-ReadAs F (Has s) z = (z ≡ Frame s.frame) × (s.frame < F)
-ReadAs F Bare z = z ≡ ZeroFrame
+ReadAs F (Has s) z = (z ≡ Ok (Some s.frame)) × (s.frame < F)
+ReadAs F Bare z = z ≡ (Ok None)
 ReadAs F Tired z = ⊥
 
 -- and it changes no more than page entries
@@ -31,18 +28,18 @@ pub record Sees (F : ℕ) (x : End) (w : Work) (r : Committing) : Type 0 where
 
 -- the read is refused and peek shows nothing, or peek shows the L bytes that the read gives
 pub data Peeked (L : ℕ) (shown : List ℕ) (r : Outcome Answer) : Type 0 where
-  nothing : (why : Refusal) → r.answer ≡ Refused why → shown ≡ [] → Peeked L shown r
-  bytes : r.answer ≡ Done 0 → shown ≡ r.buf → length shown ≡ L → Peeked L shown r
+  nothing : (why : Refusal) → r.answer ≡ Err why → shown ≡ [] → Peeked L shown r
+  bytes : r.answer ≡ Ok 0 → shown ≡ r.buf → length shown ≡ L → Peeked L shown r
 
 -- the read is refused
 pub record ReadRefused (r : Outcome Answer) : Type 0 where
   pub why : Refusal
-  pub answer : r.answer ≡ Refused why
+  pub answer : r.answer ≡ Err why
 
 -- the bytes that an accepted read gives
 abbrev pub bytes_read : Answer → List ℕ → List ℕ
-bytes_read (Done v) buf = buf
-bytes_read (Refused why) buf = []
+bytes_read (Ok v) buf = buf
+bytes_read (Err why) buf = []
 
 -- peek by document 01's sentence: the buffer of a read of that page where the read is accepted, else nothing; nothing too where the zero page
 -- isn't L zeros

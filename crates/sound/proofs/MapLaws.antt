@@ -1,6 +1,6 @@
 -- A place of the mappings, free or held; and blank places at the end of the list. Assumes nothing.
-use mathlib.Core.Path.{◌≡◌, sym, ap, ◌∙◌}
-use mathlib.Core.Bool.{Bool, true, false, ◌&&◌, and-true}
+use mathlib.Core.Path.{◌≡◌, refl, sym, ap, ◌∙◌}
+use mathlib.Core.Bool.{Bool, true, false, ◌&&◌, and_assoc, and-true}
 use mathlib.Core.List.{List}
 use Prim.Native.Nat.{ℕ, ◌+◌, ◌*◌, ◌≤◌, ◌<◌}
 use native.Mathlib.Omega.{arith}
@@ -12,18 +12,27 @@ use Rattle.logic.proofs.Laws.{run_rest}
 use Rattle.logic.proofs.Means.{less, split}
 use Rattle.tables.specs.declared.Mapping.{Mapping}
 use Rattle.tables.specs.Tables.{mapping_of, mapping_by, number_of}
-use Rattle.sound.specs.Maps.{mapping_ok, blank_of, place_ok, places_ok, once_at, mappings_ok}
+use Rattle.sound.specs.Maps.{mapping_ok, place_ok, places_ok, once_at, mappings_ok}
 use Rattle.sound.specs.Rows.{mark_run}
 use Rattle.sound.proofs.RowLaws.{mark-none}
 
-module _ (nodes mappings : List ℕ) (i : ℕ) {m : Mapping} {b : Bool} where
-  pub place-blank : {w : ℕ} → m ≡ mapping_of mappings i → b ≡ blank_of m → b ≡ true → w ≡ number_of mappings (i + 1) → eqb w 0 ≡ place_ok nodes mappings i
-  unfolding place_ok
-  place-blank e h t n = rw (n, ← e, sym h ∙ t)
+-- four tests, however they are grouped
+four : (a b c d : Bool) → (a && (b && (c && d))) ≡ (a && b && c && d)
+four true b c d = sym (and_assoc b c d)
+four false b c d = refl
 
-  pub place_held : {r : Bool} → m ≡ mapping_of mappings i → b ≡ blank_of m → b ≡ false → r ≡ mapping_ok nodes m → r ≡ place_ok nodes mappings i
+-- a mapping is the blank one, as derived
+abbrev same_blank : Mapping → Bool
+same_blank m = eqb m.number 0 && (eqb m.object 0 && (eqb m.first 0 && eqb m.pages 0))
+
+module _ (nodes mappings : List ℕ) (i : ℕ) {m : Mapping} {b : Bool} where
+  pub place-blank : {w : ℕ} → m ≡ mapping_of mappings i → b ≡ same_blank m → b ≡ true → w ≡ number_of mappings (i + 1) → eqb w 0 ≡ place_ok nodes mappings i
   unfolding place_ok
-  place_held e h t n = rw (n, ← e, sym h ∙ t)
+  place-blank e h t n = rw (n, ← e, sym (h ∙ four (eqb m.number 0) (eqb m.object 0) (eqb m.first 0) (eqb m.pages 0)) ∙ t)
+
+  pub place_held : {r : Bool} → m ≡ mapping_of mappings i → b ≡ same_blank m → b ≡ false → r ≡ mapping_ok nodes m → r ≡ place_ok nodes mappings i
+  unfolding place_ok
+  place_held e h t n = rw (n, ← e, sym (h ∙ four (eqb m.number 0) (eqb m.object 0) (eqb m.first 0) (eqb m.pages 0)) ∙ t)
 
 -- a table of 256 words has no place 64
 pub mapping_out : (M : List ℕ) → length M ≡ 256 → (i : ℕ) → 64 ≤ i → mapping_of M i ≡ mapping_by 0 0 0 0

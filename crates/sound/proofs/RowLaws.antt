@@ -1,27 +1,51 @@
 -- Turns of the walk along the page entries. Assumes nothing.
 use mathlib.Core.Path.{◌≡◌, refl, sym, ap, ◌∙◌}
-use mathlib.Core.Bool.{Bool, true, false, ◌&&◌, ◌||◌, not, and_assoc, and-true}
+use mathlib.Core.Bool.{Bool, true, false, ◌&&◌, ◌||◌, not, and-true}
 use mathlib.Core.List.{List}
 use Prim.Native.Nat.{ℕ, zero, suc, ◌+◌, ◌-◌, ◌*◌, ◌/◌, ◌%◌, ◌≤◌, ◌<◌}
 use native.Mathlib.Omega.{arith}
 use native.Mathlib.Numerals.{add-one}
 use lib.Dec.{eqb, leb, ltb}
-use lib.ListN.{length, get_or, set}
+use lib.ListN.{length, get_or, set, take, drop}
 use lib.Seq.{set_out}
+use Rattle.std.specs.List.{sum_by, fold, zip}
+use Rattle.std.proofs.lemmas.Slice.Zip.{length-zip, get_or-zip}
+use Rattle.std.proofs.lemmas.List.{get_or-take, get_or-drop, length-take, length-drop}
 use borrow.Author.Tests.{eq-eqb, ne_eqb, eqb-true, eqb-false, le-leb, lt-ltb}
 use Rattle.logic.specs.Pick.{pick}
 use Rattle.logic.specs.Below.{all_below, sum_below}
-use Rattle.logic.proofs.Laws.{all_next, run_rest}
+use Rattle.logic.proofs.Laws.{run_rest}
 use Rattle.entry.specs.Entry.{low_of}
 use Rattle.node.specs.declared.Node.{Node}
 use Rattle.node.specs.Node.{hidden_of}
 use Rattle.tables.specs.Tables.{node_of, entry_of}
 use Rattle.sound.specs.declared.rows.Row.{Row}
-use Rattle.sound.specs.Rows.{entry_ok, entry_ok_at, row_ok, pins_at, row_pins, present_at, row_count, row_of, row_next, walked, row_test, more_of, mark_entry, mark_run, mark_rows, frame_ok}
+use Rattle.logic.proofs.Lists.{sum_listed, sum_same, all_listed, all_same, fold_both}
+use Rattle.sound.specs.Rows.{one_if, entry_ok, entry_ok_at, row_ok, pins_at, row_pins, present_at, row_count, row_of, row_next, walked, row_test, more_of, mark_entry, mark_run, mark_rows, frame_ok, frames_ok}
 
-pub entry_in : (pages : List ℕ) (n i : ℕ) → i < 64 → get_or pages (n * 64 + i) 0 ≡ entry_of pages n i
+entry_in : (pages : List ℕ) (n i : ℕ) → i < 64 → get_or pages (n * 64 + i) 0 ≡ entry_of pages n i
 unfolding entry_of
 entry_in pages n i h = rw (lt-ltb _ _ h)
+
+-- a row as a part of the table
+
+abbrev pub row_at : List ℕ → ℕ → List ℕ
+row_at pages n = take (n * 64 + 64 - n * 64) (drop (n * 64) pages)
+
+pub row_length : (pages : List ℕ) (n : ℕ) → length pages ≡ 4096 → n < 64 → length (row_at pages n) ≡ 64
+row_length pages n e l = simp (length-take, length-drop) (omega arith)
+
+pub row_reads : (pages : List ℕ) (n i : ℕ) → i < 64 → get_or (row_at pages n) i 0 ≡ get_or pages (n * 64 + i) 0
+row_reads pages n i h = let w : n * 64 + 64 - n * 64 ≡ 64 = omega arith in rw (w, get_or-take, get_or-drop)
+
+pub entry_at : (pages : List ℕ) (n i : ℕ) → i < 64 → get_or (row_at pages n) i 0 ≡ entry_of pages n i
+entry_at pages n i h = row_reads pages n i h ∙ entry_in pages n i h
+
+pub counted : (pages : List ℕ) (n : ℕ) → length pages ≡ 4096 → n < 64 → sum_by one_if (row_at pages n) ≡ row_count pages n
+unfolding row_count present_at
+counted pages n e l =
+    sum_listed one_if (row_at pages n) (row_length pages n e l)
+    ∙ sum_same (λ i. one_if (get_or (row_at pages n) i 0)) (present_at pages n) 64 (λ i h. ap one_if (entry_at pages n i h))
 
 pub run_next : (g : ℕ → ℕ) (k : ℕ) (marks : List ℕ) {s t : List ℕ} {e : ℕ} → s ≡ mark_run g k marks → e ≡ g k → t ≡ mark_entry s e → t ≡ mark_run g (k + 1) marks
 unfolding mark_run
@@ -119,14 +143,14 @@ module _ (hidden : Bool) (size F : ℕ) (pages : List ℕ) (n : ℕ) where
   unfolding row_next walked entry_ok_at pins_at present_at all_below sum_below
   walk-next i p q h = h ∙ rw (add-one, p, q)
 
+  pub seen_most : (i : ℕ) {row : Row} → row ≡ walked hidden size F pages n i → row.seen ≤ i
+  unfolding walked
+  seen_most i p = rw p (count_most pages n i)
+
   -- while an entry is left the walk is inside the row
-  pub walk_inside : (i : ℕ) {row : Row} {c : ℕ} → row ≡ walked hidden size F pages n i → c ≡ row_count pages n → i ≤ 64 → row.seen < c → (i < 64) × (row.seen < 64)
+  pub walk_inside : (i : ℕ) {row : Row} {c : ℕ} → row ≡ walked hidden size F pages n i → c ≡ row_count pages n → i ≤ 64 → row.seen < c → i < 64
   unfolding row_count walked
-  walk_inside i {row} p q l m =
-      let s : row.seen ≡ sum_below (present_at pages n) i = ap (λ (t : Row). t.seen) p in
-      let k = count_most pages n i in
-      let a : i < 64 = by (eqb i 64) refl s in
-      (a, omega arith)
+  walk_inside i {row} p q l m = by (eqb i 64) refl (ap (λ (t : Row). t.seen) p)
     where
       by : (b : Bool) → eqb i 64 ≡ b → row.seen ≡ sum_below (present_at pages n) i → i < 64
       by true t s = let e = eqb-true i 64 t in let z = rw e at s in absurd (omega arith)
@@ -152,9 +176,26 @@ module _ (hidden : Bool) (size F : ℕ) (pages : List ℕ) (n : ℕ) where
     pub marks_end : (marks : List ℕ) {t : List ℕ} → t ≡ mark_run (entry_of pages n) i marks → t ≡ mark_run (entry_of pages n) 64 marks
     marks_end marks p = p ∙ run_rest (λ k. mark_run (entry_of pages n) k marks) i 64 l (marks_same marks)
 
-pub frame_next : (used marks : List ℕ) (i : ℕ) {ok : Bool} → ok ≡ all_below (frame_ok used marks) i → (ok && eqb (get_or used i 0) (get_or marks (i + 1) 0) && leb (get_or used i 0) 1) ≡ all_below (frame_ok used marks) (i + 1)
+-- frames with their marks: a frame's is the one after its place
+
+frame_at : (used marks : List ℕ) (i : ℕ) → i < length used → length used < length marks → (eqb (get_or (zip used (drop 1 marks)) i (0, 0)).0 (get_or (zip used (drop 1 marks)) i (0, 0)).1 && leb (get_or (zip used (drop 1 marks)) i (0, 0)).0 1) ≡ frame_ok used marks i
 unfolding frame_ok
-frame_next used marks i {ok} p = and_assoc ok (eqb (get_or used i 0) (get_or marks (i + 1) 0)) (leb (get_or used i 0) 1) ∙ all_next (frame_ok used marks) i p refl
+frame_at used marks i h l =
+    let r : length (drop 1 marks) ≡ length marks - 1 = length-drop 1 marks in
+    let k : i < length (drop 1 marks) = omega arith in
+    let s : i + 1 ≡ 1 + i = omega arith in
+    rw (get_or-zip used (drop 1 marks) i (0, 0) h k, get_or-drop 1 marks i 0, s)
+
+pub frames_by : (used marks : List ℕ) → length used < length marks → fold (λ ok (p : ℕ × ℕ). ok && eqb p.0 p.1 && leb p.0 1) true (zip used (drop 1 marks)) ≡ frames_ok used marks
+unfolding frames_ok frame_ok
+frames_by used marks l =
+    let n = length used in
+    let rest = drop 1 marks in
+    let r : length rest ≡ length marks - 1 = length-drop 1 marks in
+    let z : length (zip used rest) ≡ n = omega (arith, length-zip used rest) in
+    fold_both (λ (p : ℕ × ℕ). eqb p.0 p.1) (λ (p : ℕ × ℕ). leb p.0 1) true (zip used rest)
+    ∙ all_listed (λ (p : ℕ × ℕ). eqb p.0 p.1 && leb p.0 1) (zip used rest) (0, 0) z
+    ∙ all_same (λ i. let p = get_or (zip used rest) i (0, 0) in eqb p.0 p.1 && leb p.0 1) (frame_ok used marks) n (λ i h. frame_at used marks i h l)
 
 pub row_by : (nodes pages : List ℕ) (F n : ℕ) {r : Node} {h : Bool} {row : Row} → r ≡ node_of nodes n → h ≡ hidden_of r → row ≡ walked h r.size F pages n 64 → (row.ok && leb row.pins r.pin_count) ≡ row_test nodes pages F n
 unfolding row_test row_ok row_pins walked

@@ -1,11 +1,9 @@
 -- The sound pool, sentence by sentence of document 01, with what this layout of the lent tables adds. A reader checks this page against 01;
 -- crate `soundness` proves that the test `sound` holds exactly if these facts do.
-use Rattle.std.specs.Prelude.{◌≡◌, true, List, ◌⊎◌, ℕ, ◌+◌, ◌-◌, ◌*◌, ◌≤◌, ◌<◌, length, get_or}
+use Rattle.std.specs.Prelude.{◌≡◌, true, List, ◌⊎◌, ℕ, ◌+◌, ◌-◌, ◌*◌, ◌≤◌, ◌<◌, length, get_or, Option, None, Some}
 use Rattle.logic.specs.Below.{sum_below}
 use Rattle.entry.specs.declared.PageState.{PageState}
 use Rattle.entry.specs.declared.PageStateTag.TheVariants.{Owned}
-use Rattle.entry.specs.declared.Slot.{Slot}
-use Rattle.entry.specs.declared.Slot.TheVariants.{Empty, Held}
 use Rattle.entry.specs.Entry.{entry_word}
 use Rattle.node.specs.Node.{free_node, leaf_of}
 use Rattle.tables.specs.Pool.{Pool}
@@ -65,11 +63,11 @@ pub record Tree (N : List ℕ) (next : ℕ) : Type 0 where
 
 -- page i of node n holds s
 abbrev pub Holds : List ℕ → ℕ → ℕ → PageState → Type 0
-Holds P n i s = slot_at P n i ≡ Held s
+Holds P n i s = slot_at P n i ≡ Some s
 
-abbrev pub pins_of : Slot → ℕ
-pins_of Empty = 0
-pins_of (Held s) = s.pin_count
+abbrev pub pins_of : Option PageState → ℕ
+pins_of None = 0
+pins_of (Some s) = s.pin_count
 
 -- frame f stands in some page entry
 pub record Stands (P : List ℕ) (f : ℕ) : Type 0 where
@@ -94,7 +92,7 @@ pub record Entries (N P used : List ℕ) : Type 0 where
   -- of the layout: a frame's number is one of the pool's, a flag is 0 or 1, and an entry is 0 or the word of its state
   pub frames : (n i : ℕ) (s : PageState) → Holds P n i s → s.frame < length used
   pub flags : (f : ℕ) → get_or used f 0 ≤ 1
-  pub empty : (n i : ℕ) → slot_at P n i ≡ Empty → entry_of P n i ≡ 0
+  pub empty : (n i : ℕ) → slot_at P n i ≡ None → entry_of P n i ≡ 0
   pub held : (n i : ℕ) (s : PageState) → Holds P n i s → entry_of P n i ≡ entry_word s
 
 abbrev pub LiveAt : List ℕ → ℕ → Type 0

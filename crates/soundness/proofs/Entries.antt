@@ -1,4 +1,5 @@
 -- What the test of a row of page entries means. Assumes nothing.
+use Rattle.std.specs.Prelude.{None, Some}
 use mathlib.Core.Path.{◌≡◌, refl, ap, ◌∙◌}
 use mathlib.Core.Bool.{true}
 use mathlib.Core.List.{List}
@@ -8,7 +9,6 @@ use lib.ListN.{length}
 use Rattle.logic.specs.Below.{sum_below}
 use Rattle.entry.specs.declared.PageState.{PageState}
 use Rattle.entry.specs.declared.PageStateTag.TheVariants.{Owned}
-use Rattle.entry.specs.declared.Slot.TheVariants.{Empty, Held}
 use Rattle.entry.specs.Entry.{tag_number, tag_of, state_of, slot_of, entry_word}
 use Rattle.node.specs.declared.Node.{Node}
 use Rattle.node.specs.Node.{hidden_of}
@@ -23,12 +23,12 @@ use Rattle.soundness.proofs.Slots.{parts, holds, no_frame, absent, tag_there, ta
 -- the facts of entry e of page i in a node of record r, in a pool of F frames
 
 pub record Fits (r : Node) (F i e : ℕ) : Type 0 where
-  pub empty : slot_of e ≡ Empty → e ≡ 0
-  pub held : (s : PageState) → slot_of e ≡ Held s → e ≡ entry_word s
-  pub frames : (s : PageState) → slot_of e ≡ Held s → s.frame < F
-  pub below : (s : PageState) → slot_of e ≡ Held s → i < r.size
-  pub leaves : (s : PageState) → (r.kind ≡ 3 → ⊥) → slot_of e ≡ Held s → s.tag ≡ Owned
-  pub hidden_pins : (s : PageState) → r.kind ≡ 3 → slot_of e ≡ Held s → s.pin_count ≡ 0
+  pub empty : slot_of e ≡ None → e ≡ 0
+  pub held : (s : PageState) → slot_of e ≡ Some s → e ≡ entry_word s
+  pub frames : (s : PageState) → slot_of e ≡ Some s → s.frame < F
+  pub below : (s : PageState) → slot_of e ≡ Some s → i < r.size
+  pub leaves : (s : PageState) → (r.kind ≡ 3 → ⊥) → slot_of e ≡ Some s → s.tag ≡ Owned
+  pub hidden_pins : (s : PageState) → r.kind ≡ 3 → slot_of e ≡ Some s → s.pin_count ≡ 0
 
 -- the same of the word
 
@@ -46,7 +46,7 @@ module _ (r : Node) (F i e : ℕ) where
       (both (both (both (most _ _) (most _ _)) (less _ _))
       (choose (equal _ _) (either (both (equal _ _) (less _ _)) (both_two _ _ (nay (equal _ _)) (both (less _ _) (equal _ _))))))
 
-  module _ (w : Words r F i e) (s : PageState) (x : slot_of e ≡ Held s) where
+  module _ (w : Words r F i e) (s : PageState) (x : slot_of e ≡ Some s) where
     there : e ≡ 0 → ⊥
     there z = let p = parts e x in omega arith
 

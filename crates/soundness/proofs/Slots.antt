@@ -1,4 +1,5 @@
 -- An entry's word and what a page holds by it. Assumes nothing.
+use Rattle.std.specs.Prelude.{None, Some}
 use mathlib.Core.Path.{◌≡◌, refl}
 use mathlib.Core.Bool.{Bool, true, false}
 use Prim.Native.Nat.{ℕ, zero, suc, ◌+◌, ◌/◌, ◌%◌, ◌≤◌}
@@ -9,7 +10,6 @@ use Rattle.logic.specs.Pick.{pick}
 use Rattle.entry.specs.declared.PageState.{PageState}
 use Rattle.entry.specs.declared.PageStateTag.{PageStateTag}
 use Rattle.entry.specs.declared.PageStateTag.TheVariants.{Owned, LeftSplit, RightSplit}
-use Rattle.entry.specs.declared.Slot.TheVariants.{Empty, Held}
 use Rattle.entry.specs.Entry.{tag_number, tag_of, state_of, slot_of}
 
 -- the state that a word holds
@@ -23,27 +23,27 @@ state_parts : (e : ℕ) → (e % 4096 ≡ 0 → ⊥) → Parts e (state_of e)
 unfolding state_of
 state_parts e ne = record { frame = omega arith; tag = refl; pins = refl }
 
-held_by : (e : ℕ) (s : PageState) (b : Bool) → eqb (e % 4096) 0 ≡ b → pick b Empty (Held (state_of e)) ≡ Held s → Parts e s
+held_by : (e : ℕ) (s : PageState) (b : Bool) → eqb (e % 4096) 0 ≡ b → pick b None (Some (state_of e)) ≡ Some s → Parts e s
 held_by e s true t h = let z : ◌≡◌ {A = ℕ} 0 1 = cc in absurd (omega arith)
 held_by e s false t h = let q : state_of e ≡ s = cc in rw q at (state_parts e (eqb-false (e % 4096) 0 t))
 
-pub parts : (e : ℕ) {s : PageState} → slot_of e ≡ Held s → Parts e s
+pub parts : (e : ℕ) {s : PageState} → slot_of e ≡ Some s → Parts e s
 unfolding slot_of
 parts e {s} h = held_by e s (eqb (e % 4096) 0) refl h
 
-pub holds : (e : ℕ) → (e % 4096 ≡ 0 → ⊥) → slot_of e ≡ Held (state_of e)
+pub holds : (e : ℕ) → (e % 4096 ≡ 0 → ⊥) → slot_of e ≡ Some (state_of e)
 unfolding slot_of
 holds e ne = rw (ne_eqb (e % 4096) 0 ne)
 
-empty_by : (e : ℕ) (b : Bool) → eqb (e % 4096) 0 ≡ b → pick b Empty (Held (state_of e)) ≡ Empty → e % 4096 ≡ 0
+empty_by : (e : ℕ) (b : Bool) → eqb (e % 4096) 0 ≡ b → pick b None (Some (state_of e)) ≡ None → e % 4096 ≡ 0
 empty_by e true t h = eqb-true (e % 4096) 0 t
 empty_by e false t h = let z : ◌≡◌ {A = ℕ} 0 1 = cc in absurd (omega arith)
 
-pub no_frame : (e : ℕ) → slot_of e ≡ Empty → e % 4096 ≡ 0
+pub no_frame : (e : ℕ) → slot_of e ≡ None → e % 4096 ≡ 0
 unfolding slot_of
 no_frame e h = empty_by e (eqb (e % 4096) 0) refl h
 
-pub absent : (e : ℕ) → e % 4096 ≡ 0 → slot_of e ≡ Empty
+pub absent : (e : ℕ) → e % 4096 ≡ 0 → slot_of e ≡ None
 unfolding slot_of
 absent e z = rw (eq-eqb (e % 4096) 0 z)
 

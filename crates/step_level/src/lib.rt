@@ -2,234 +2,174 @@
 
 #![tactic(auto)]
 
-ghost use Rattle.std.specs.Prelude.{◌≡◌, Bool, List, ℕ, ◌≤◌, ◌<◌};
+ghost use Rattle.std.specs.Prelude.{◌≡◌, Bool, List, ℕ, ◌+◌, ◌≤◌, ◌<◌};
 ghost use Rattle.node.specs.Node.{side_of};
 ghost use Rattle.tables.specs.Tables.{node_of};
 ghost use Rattle.frames.specs.Frames.{free_frame_in};
-ghost use Rattle.outcome.specs.Told.{told_of};
-ghost use Rattle.lookup.specs.Work.{work_of, looking_of};
+ghost use Rattle.outcome.specs.Told.{Told, unmap};
+ghost use Rattle.outcome.specs.Lent.{SameList, told_at};
+ghost use Rattle.lookup.specs.Work.{looking_of};
 ghost use Rattle.lookup.specs.Mode.{today};
+ghost use Rattle.lookup.specs.Lent.{SameStore, mode_in, work_in};
 ghost use Rattle.lookup.specs.Level.{fresh_in, child_told, copy_by, share_in, leaf_told, serve, pass_by};
 
 use entry::{PageState, PageStateTag};
-use logic::Found;
-use lookup::{Ask, CommitResult, Place, Step};
+use lookup::{Ask, CommitResult, Looked, LookupError, Place, Store};
 use notices::Span;
+use outcome::{Notices, RangeChangeOp};
+use tables::Tree;
 
 // An absent page that no parent is asked for.
-pub fn make_fresh(
-    pages: &mut [u32],
-    used: &mut [u8],
-    memory: &mut [u8],
-    p: Place,
-    hidden: bool,
-    halts: bool,
-    write: bool,
-) -> CommitResult
-    ensures { (list : List ℕ) (count : ℕ) →
-        looking_of result (work_of pages.new used.new memory.new (told_of list count))
-        ≡ fresh_in 4096 write (work_of pages.old used.old memory.old (told_of list count)) p hidden halts }
+#[tactic(auto, unfolding(lookup::specs::Level::fresh_in, lookup::specs::Level::fresh_by, lookup::specs::Level::cleared))]
+pub fn make_fresh(store: &mut Store, p: Place, hidden: bool, halts: bool, write: bool) -> Looked
+    ensures same { SameStore store.old store.new }
+    ensures value { (t : Told) → looking_of result (work_in store.new t) ≡ fresh_in 4096 write (work_in store.old t) p hidden halts }
 {
     if !write {
-        return CommitResult::Zero;
+        return Ok(CommitResult::Zero);
     }
-    let got = frames::take_frame(used);
-    match got {
-        Found::Nothing => return CommitResult::NoMemory,
-        Found::At(f) => {
-            frames::clear_frame(memory, f);
-            if hidden {
-                if halts {
-                    frames::give_frame(used, f);
-                    return CommitResult::Stopped;
-                }
-                return CommitResult::NewPage(f);
-            }
-            tables::set_state(pages, p.node, p.page, PageState::new(f));
-            return CommitResult::Ref(f);
+    let Some(f) = frames::take_frame(store.used) else {
+        return Err(LookupError::NoMemory);
+    };
+    frames::clear_frame(store.memory, f);
+    if hidden {
+        if halts {
+            frames::give_frame(store.used, f);
+            return Err(LookupError::Stopped);
         }
+        return Ok(CommitResult::NewPage(f));
     }
+    tables::set_state(store.pages, p.node, p.page, PageState::new(f));
+    Ok(CommitResult::Ref(f))
 }
 
 // The asker's own copy of a hidden node's page, which is tagged with the asker's side.
-fn copy_page(
-    pages: &mut [u32],
-    used: &mut [u8],
-    memory: &mut [u8],
-    p: Place,
-    s: PageState,
-    tag: PageStateTag,
-) -> CommitResult
-    ensures { (N M list : List ℕ) (count : ℕ) (u : Bool) → (side_of (node_of N p.node) p.asker).tag ≡ tag →
-        looking_of result (work_of pages.new used.new memory.new (told_of list count))
-        ≡ copy_by (today 4096 N M) p s u (free_frame_in used.old) (work_of pages.old used.old memory.old (told_of list count)) }
+#[tactic(auto, unfolding(lookup::specs::Level::copy_by, lookup::specs::Level::child_told))]
+fn copy_page(store: &mut Store, p: Place, s: PageState, tag: PageStateTag) -> Looked
+    ensures same { SameStore store.old store.new }
+    ensures value { (N M : List ℕ) (t : Told) (u : Bool) → (side_of (node_of N p.node) p.asker).tag ≡ tag →
+        looking_of result (work_in store.new t) ≡ copy_by (today 4096 N M) p s u (free_frame_in store.old.used.now) (work_in store.old t) }
 {
-    let got = frames::take_frame(used);
-    match got {
-        Found::Nothing => return CommitResult::NoMemory,
-        Found::At(f) => {
-            let frame = s.frame;
-            frames::copy_frame(memory, f, frame);
-            tables::set_state(pages, p.node, p.page, s.with_tag(tag));
-            return CommitResult::CopyOnWrite(f, true);
-        }
-    }
+    let Some(f) = frames::take_frame(store.used) else {
+        return Err(LookupError::NoMemory);
+    };
+    frames::copy_frame(store.memory, f, s.frame);
+    tables::set_state(store.pages, p.node, p.page, s.with_tag(tag));
+    Ok(CommitResult::CopyOnWrite(f, true))
 }
 
 // The other child has the page too: it is handed over if split, copied for writing, else shared.
-fn share(
-    pages: &mut [u32],
-    used: &mut [u8],
-    memory: &mut [u8],
-    p: Place,
-    s: PageState,
-    tag: PageStateTag,
-    write: bool,
-    unmap: bool,
-) -> CommitResult
-    ensures { (N M list : List ℕ) (count : ℕ) → (side_of (node_of N p.node) p.asker).tag ≡ tag →
-        looking_of result (work_of pages.new used.new memory.new (told_of list count))
-        ≡ share_in (today 4096 N M) write p s unmap (work_of pages.old used.old memory.old (told_of list count)) }
+#[tactic(auto, unfolding(lookup::specs::Level::share_in))]
+fn share(store: &mut Store, ask: Ask, s: PageState, tag: PageStateTag, unmap: bool) -> Looked
+    ensures same { SameStore store.old store.new }
+    ensures value { (N M : List ℕ) (t : Told) → (side_of (node_of N ask.place.node) ask.place.asker).tag ≡ tag →
+        looking_of result (work_in store.new t) ≡ share_in (today 4096 N M) ask.write ask.place s unmap (work_in store.old t) }
 {
+    let p = ask.place;
     let own = s.tag;
     if own.is_split() {
-        tables::clear_state(pages, p.node, p.page);
-        return CommitResult::CopyOnWrite(s.frame, unmap);
+        tables::clear_state(store.pages, p.node, p.page);
+        return Ok(CommitResult::CopyOnWrite(s.frame, unmap));
     }
-    if write & tag.is_split() {
-        return copy_page(pages, used, memory, p, s, tag);
+    if ask.write & tag.is_split() {
+        return copy_page(store, p, s, tag);
     }
-    CommitResult::Ref(s.frame)
+    Ok(CommitResult::Ref(s.frame))
+}
+
+// An Unmap of one page.
+fn unmap_of(page: u64) -> Span
+    requires { page ≤ 281474976710656 }
+    ensures { result ≡ record { lo = page; hi = page + 1; op = unmap } }
+{
+    Span {
+        lo: page,
+        hi: page + 1,
+        op: u32::from(RangeChangeOp::Unmap),
+    }
 }
 
 // An Unmap that is due goes to everything below the child.
-fn tell_child(
-    nodes: &[u32],
-    mappings: &[u32],
-    notices: &mut [u32],
-    count: usize,
-    child: u32,
-    page: u64,
-    due: bool,
-) -> usize
+#[tactic(auto, unfolding(lookup::specs::Level::child_told))]
+fn tell_child(tree: Tree, notices: &mut Notices, child: u32, page: u64, due: bool)
     requires { page < 4294967296 }
-    ensures { told_of notices.new result ≡ child_told (today 4096 nodes.now mappings.now) child page due (told_of notices.old count) }
+    ensures same { SameList notices.old notices.new }
+    ensures value { told_at notices.new ≡ child_told (mode_in tree.entry) child page due (told_at notices.old) }
 {
     if due {
-        let span = Span {
-            lo: page,
-            hi: page + 1,
-            op: outcome::UNMAP,
-        };
-        return notices::range_change(nodes, mappings, notices, count, child, span, 64);
+        notices::range_change(tree, notices, child, unmap_of(page), 64);
     }
-    count
 }
 
 // A leaf's mappings are told of a frame that was handed down to it.
-fn tell_leaf(mappings: &[u32], notices: &mut [u32], count: usize, p: Place, unmap: bool) -> usize
+#[tactic(auto, unfolding(lookup::specs::Level::leaf_told))]
+fn tell_leaf(mappings: &[u32], notices: &mut Notices, p: Place, unmap: bool)
     requires { p.page ≤ 281474976710656 }
-    ensures { told_of notices.new result ≡ leaf_told mappings.now p.node p.page unmap (told_of notices.old count) }
+    ensures same { SameList notices.old notices.new }
+    ensures value { told_at notices.new ≡ leaf_told mappings.now p.node p.page unmap (told_at notices.old) }
 {
     if unmap {
-        let span = Span {
-            lo: p.page,
-            hi: p.page + 1,
-            op: outcome::UNMAP,
-        };
-        return notices::tell_object(mappings, notices, count, p.node, span);
+        notices::tell_object(mappings, notices, p.node, unmap_of(p.page));
     }
-    count
 }
 
 // The page at the node: a leaf keeps it; a hidden node hands over what only the asker can reach, and shares the rest.
+#[tactic(auto, using(lookup::proofs::Laws::window_low), unfolding(lookup::specs::Level::serve))]
 pub fn serve(
-    nodes: &[u32],
-    pages: &mut [u32],
-    used: &mut [u8],
-    mappings: &[u32],
-    memory: &mut [u8],
-    notices: &mut [u32],
+    tree: Tree,
+    store: &mut Store,
+    notices: &mut Notices,
     ask: Ask,
     s: PageState,
     unmap: bool,
-) -> Step
+) -> Looked
     requires { ask.place.page ≤ 281474976710656 }
-    ensures { looking_of result.looked (work_of pages.new used.new memory.new (told_of notices.new result.count))
-        ≡ serve (today 4096 nodes.now mappings.now) ask.write ask.place s unmap (work_of pages.old used.old memory.old (told_of notices.old ask.count)) }
+    ensures store { SameStore store.old store.new }
+    ensures list { SameList notices.old notices.new }
+    ensures value { looking_of result (work_in store.new (told_at notices.new))
+        ≡ serve (mode_in tree.entry) ask.write ask.place s unmap (work_in store.old (told_at notices.old)) }
 {
     let p = ask.place;
-    let n = tables::node_at(nodes, p.node);
+    let n = tables::node_at(tree.nodes, p.node);
     if !n.is_hidden() {
-        let count = tell_leaf(mappings, notices, ask.count, p, unmap);
-        let looked = CommitResult::Ref(s.frame);
-        return Step { looked, count };
+        tell_leaf(tree.mappings, notices, p, unmap);
+        return Ok(CommitResult::Ref(s.frame));
     }
     let side = n.get_tag_and_other(p.asker);
-    let tag = side.tag;
     let other = notices::child(side.other);
-    let o = tables::node_at(nodes, other);
+    let o = tables::node_at(tree.nodes, other);
     if o.in_window(p.page) {
-        let count = tell_child(nodes, mappings, notices, ask.count, other, p.page, unmap);
-        let looked = share(pages, used, memory, p, s, tag, ask.write, unmap);
-        return Step { looked, count };
+        tell_child(tree, notices, other, p.page, unmap);
+        return share(store, ask, s, side.tag, unmap);
     }
-    tables::clear_state(pages, p.node, p.page);
-    let looked = CommitResult::CopyOnWrite(s.frame, unmap);
-    Step {
-        looked,
-        count: ask.count,
-    }
+    tables::clear_state(store.pages, p.node, p.page);
+    Ok(CommitResult::CopyOnWrite(s.frame, unmap))
 }
 
 // What the parent answered, taken apart: a shared frame and a refusal leave early; a frame that was handed down is kept.
-pub fn pass(
-    nodes: &[u32],
-    pages: &mut [u32],
-    used: &mut [u8],
-    mappings: &[u32],
-    memory: &mut [u8],
-    notices: &mut [u32],
-    ask: Ask,
-    above: CommitResult,
-) -> Step
+#[tactic(auto, unfolding(lookup::specs::Level::pass_by))]
+pub fn pass(tree: Tree, store: &mut Store, notices: &mut Notices, ask: Ask, above: Looked) -> Looked
     requires { ask.place.page ≤ 281474976710656 }
-    ensures { looking_of result.looked (work_of pages.new used.new memory.new (told_of notices.new result.count))
-        ≡ pass_by (today 4096 nodes.now mappings.now) ask.write ask.place above (work_of pages.old used.old memory.old (told_of notices.old ask.count)) }
+    ensures store { SameStore store.old store.new }
+    ensures list { SameList notices.old notices.new }
+    ensures value { looking_of result (work_in store.new (told_at notices.new))
+        ≡ pass_by (mode_in tree.entry) ask.write ask.place above (work_in store.old (told_at notices.old)) }
 {
     let p = ask.place;
-    let count = ask.count;
-    match above {
-        CommitResult::Ref(_) => Step {
-            looked: above,
-            count,
-        },
-        CommitResult::Zero => Step {
-            looked: above,
-            count,
-        },
-        CommitResult::NoMemory => Step {
-            looked: above,
-            count,
-        },
-        CommitResult::Stopped => Step {
-            looked: above,
-            count,
-        },
+    match above? {
+        CommitResult::Ref(_) | CommitResult::Zero => above,
         CommitResult::NewPage(f) => {
-            let n = tables::node_at(nodes, p.node);
+            let n = tables::node_at(tree.nodes, p.node);
             if n.is_hidden() {
-                let looked = CommitResult::NewPage(f);
-                return Step { looked, count };
+                return above;
             }
-            tables::set_state(pages, p.node, p.page, PageState::new(f));
-            let looked = CommitResult::Ref(f);
-            return Step { looked, count };
+            tables::set_state(store.pages, p.node, p.page, PageState::new(f));
+            Ok(CommitResult::Ref(f))
         }
         CommitResult::CopyOnWrite(f, unmap) => {
             let s = PageState::new(f);
-            tables::set_state(pages, p.node, p.page, s);
-            return serve(nodes, pages, used, mappings, memory, notices, ask, s, unmap);
+            tables::set_state(store.pages, p.node, p.page, s);
+            serve(tree, store, notices, ask, s, unmap)
         }
     }
 }

@@ -10,7 +10,6 @@ ghost use Rattle.lookup.specs.declared.Turn.TheVariants.{Climbs};
 ghost use Rattle.lookup.specs.Mode.{today, asks_by, up_from, ups};
 ghost use Rattle.lookup.specs.Descent.{way, turn, walk, hidden_up};
 
-use entry::Slot;
 use lookup::{End, Place, Turn, Walked};
 use node::Node;
 
@@ -19,17 +18,7 @@ fn asks(n: Node, page: u64) -> bool
     requires { page ≤ 281474976710656 }
     ensures { result ≡ asks_by n (out_of n page) }
 {
-    (n.parent != Node::NONE) & !n.out_of_range(page)
-}
-
-// The number that a link to a parent names.
-fn parent_of(n: Node) -> u32
-    ensures { result ≡ n.parent - 1 }
-{
-    if n.parent == Node::NONE {
-        return 0;
-    }
-    n.parent - 1
+    n.parent != Node::NONE && !n.out_of_range(page)
 }
 
 // The parent's page, asked for by this node.
@@ -39,35 +28,32 @@ pub fn up_from(n: Node, p: Place) -> Place
     ensures near { result.page ≤ p.page + 4294967296 }
 {
     Place {
-        node: parent_of(n),
-        page: n.parent_offset as u64 + p.page,
+        node: n.parent.saturating_sub(1),
+        page: u64::from(n.parent_offset) + p.page,
         asker: p.node,
     }
 }
 
+#[tactic(auto, unfolding(lookup::specs::Mode::asks))]
 fn take_turn(nodes: &[u32], pages: &[u32], p: Place) -> Turn
     requires { p.page ≤ 281474976710656 }
     ensures value { (M : List ℕ) → result ≡ turn (today 4096 nodes.now M) pages.now p }
     ensures near { (q : Place) → result ≡ Climbs q → q.page ≤ p.page + 4294967296 }
 {
-    let slot = tables::slot_at(pages, p.node, p.page);
-    match slot {
-        Slot::Held(s) => return Turn::Ends(End::Has(s)),
-        Slot::Empty => {
-            let n = tables::node_at(nodes, p.node);
-            if asks(n, p.page) {
-                return Turn::Climbs(up_from(n, p));
-            }
-            return Turn::Ends(End::Bare);
-        }
+    if let Some(s) = tables::slot_at(pages, p.node, p.page) {
+        return Turn::Ends(End::Has(s));
     }
+    let n = tables::node_at(nodes, p.node);
+    if asks(n, p.page) {
+        return Turn::Climbs(up_from(n, p));
+    }
+    Turn::Ends(End::Bare)
 }
 
 fn is_hidden(nodes: &[u32], node: u32) -> bool
     ensures { result ≡ hidden_of (node_of nodes.now node) }
 {
-    let n = tables::node_at(nodes, node);
-    n.is_hidden()
+    tables::node_at(nodes, node).is_hidden()
 }
 
 // The end of the chain: no more parent may be asked.
@@ -75,10 +61,9 @@ fn walk_ends(nodes: &[u32], pages: &[u32], p: Place) -> End
     requires { p.page ≤ 281474976710656 }
     ensures { (M : List ℕ) → way 0 result ≡ walk (today 4096 nodes.now M) 0 pages.now p }
 {
-    let last = take_turn(nodes, pages, p);
-    match last {
-        Turn::Ends(end) => return end,
-        Turn::Climbs(_) => return End::Tired,
+    match take_turn(nodes, pages, p) {
+        Turn::Ends(end) => end,
+        Turn::Climbs(_) => End::Tired,
     }
 }
 
@@ -90,33 +75,28 @@ pub fn walk(nodes: &[u32], pages: &[u32], place: Place) -> Walked
     ensures hidden { (M : List ℕ) → result.hidden ≡ hidden_up (today 4096 nodes.now M) result.levels place }
     ensures low { (result.levels ≤ 64) × (result.top.page ≤ 281474976710656) }
 {
-    let mut at = place;
+    let mut top = place;
     let mut hidden = true;
-    let mut levels: u32 = 0;
-    while levels < 64 {
-        let here = levels;
-        levels += 1;
-        let next = take_turn(nodes, pages, at);
-        match next {
+    for levels in 0..64 {
+        match take_turn(nodes, pages, top) {
             Turn::Ends(end) => {
                 return Walked {
-                    levels: here,
+                    levels,
                     end,
-                    top: at,
+                    top,
                     hidden,
                 };
             }
-            Turn::Climbs(q) => {
-                at = q;
-                hidden = hidden & is_hidden(nodes, q.node);
+            Turn::Climbs(up) => {
+                top = up;
+                hidden &= is_hidden(nodes, up.node);
             }
         }
     }
-    let end = walk_ends(nodes, pages, at);
     Walked {
-        levels,
-        end,
-        top: at,
+        levels: 64,
+        end: walk_ends(nodes, pages, top),
+        top,
         hidden,
     }
 }

@@ -1,10 +1,8 @@
 -- Records read from the lent tables and written there.
-use Rattle.std.specs.Prelude.{ℕ, ◌+◌, ◌-◌, ◌*◌, Bool, List, eqb, leb, ltb, length, get_or, set}
+use Rattle.std.specs.Prelude.{ℕ, ◌+◌, ◌-◌, ◌*◌, Bool, List, eqb, leb, ltb, length, get_or, set, Option}
 use Rattle.logic.specs.Pick.{pick}
 use Rattle.logic.specs.Below.{first_from, copied, zeroed}
-use Rattle.logic.specs.declared.Found.{Found}
 use Rattle.entry.specs.declared.PageState.{PageState}
-use Rattle.entry.specs.declared.Slot.{Slot}
 use Rattle.entry.specs.Entry.{slot_of, entry_word}
 use Rattle.node.specs.declared.Node.{Node}
 use Rattle.node.specs.Node.{node_by, free_node}
@@ -40,7 +38,7 @@ with_node nodes n r =
 unfoldable pub entry_of : List ℕ → ℕ → ℕ → ℕ
 entry_of pages n i = pick (ltb i 64) (get_or pages (n * 64 + i) 0) 0
 
-unfoldable pub slot_at : List ℕ → ℕ → ℕ → Slot
+unfoldable pub slot_at : List ℕ → ℕ → ℕ → Option PageState
 slot_at pages n i = slot_of (entry_of pages n i)
 
 unfoldable pub with_entry : List ℕ → ℕ → ℕ → ℕ → List ℕ
@@ -68,17 +66,13 @@ mapping_of mappings i =
 unfoldable pub number_of : List ℕ → ℕ → ℕ
 number_of mappings i = (mapping_of mappings i).number
 
--- word a + k of a table is 0
-abbrev pub zero_from : List ℕ → ℕ → ℕ → Bool
-zero_from words a k = eqb (get_or words (a + k) 0) 0
-
 unfoldable pub is_free : List ℕ → ℕ → Bool
 is_free nodes n = eqb (word_of nodes n 0) 0
 
 -- the lowest free node
-unfoldable pub free_node_in : List ℕ → Found
+unfoldable pub free_node_in : List ℕ → Option ℕ
 free_node_in nodes = first_from (is_free nodes) 0 64
 
 -- the lowest free node from k on
-unfoldable pub free_node_from : List ℕ → ℕ → Found
+unfoldable pub free_node_from : List ℕ → ℕ → Option ℕ
 free_node_from nodes k = first_from (is_free nodes) k (64 - k)

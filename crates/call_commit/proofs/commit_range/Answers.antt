@@ -1,52 +1,28 @@
 use mathlib.Core.Path.{refl, ◌∙◌}
 use native.Mathlib.Omega.{arith}
+use Rattle.lookup.proofs.Laws.{same-same}
 use Rattle.page.specs.Pages.{commit_one}
 use Rattle.ranges.specs.Ranges.{commit_range}
 use Rattle.ranges.proofs.Laws.{each_end, each_stop, each_next}
-use borrow.Author.Rules.{rules}
 use Rattle.call_commit.proofs.commit_range.Goals as goal
 
-pub loop-left-init : goal.loop-left-init
+pub returns-in_err-commit_one-clause-value : goal.returns-in_err-commit_one-clause-value
 unfolding commit_range
-loop-left-init c =
-    (c.requires, refl, refl, refl, refl, refl)
+returns-in_err-commit_one-clause-value c = (
+  _,
+  each_stop (commit_one 4096 _ _ _) c.loop-page.page _ c.commit_one.ensures.value _ (omega arith) c.in_err-commit_one.was c.from_residual.ensures.1
+      ∙ c.loop-page.invariant.2,
+)
 
-pub commit_one-part-requires : goal.commit_one-part-requires
-commit_one-part-requires c =
-    let the-loop-test = c.loop-left-test in
-    let the-loop = c.loop-left in
-    omega (arith, the-loop.invariant.0, the-loop-test.true)
-
-pub returns-in-Why : goal.returns-in-Why
-returns-in-Why c =
-    let the-commit-one = c.commit_one-part in
-    let the-loop-test =
-    c.loop-left-test in
-    let the-loop = c.loop-left in
-    each_stop (commit_one 4096 _ _ _) the-loop.page _ the-commit-one.ensures.value the-loop.left (omega (arith, the-loop-test.true))
-    c.in-Why.is ∙ the-loop.invariant.5
-
-pub loop-left-smaller : goal.loop-left-smaller
-loop-left-smaller c =
-    let the-loop-test =
-    c.loop-left-test in
-    omega (arith, the-loop-test.true)
-
-pub loop-left-preserved : goal.loop-left-preserved
-loop-left-preserved c =
-    let the-commit-one = c.commit_one-part in
-    let the-loop-test =
-    c.loop-left-test in
-    let the-loop =
-    c.loop-left in (
-      omega (arith, the-loop.invariant.0, the-commit-one.ensures.near, the-loop-test.true),
-      search rules,
-      search rules,
-      search rules,
-      search rules,
-      each_next (commit_one 4096 _ _ _) the-loop.page _ the-commit-one.ensures.value the-loop.left _ (omega (arith, the-loop-test.true))
-          c.in-Nothing.is ∙ the-loop.invariant.5,
+pub loop-page-preserved : goal.loop-page-preserved
+loop-page-preserved c =
+    let stepped = rw c.in_ok-commit_one.was at c.commit_one.ensures.value in (
+      same-same c.loop-page.invariant.0 c.commit_one.ensures.store,
+      c.commit_one.ensures.list ∙ c.loop-page.invariant.1,
+      each_next (commit_one 4096 _ _ _) c.loop-page.page _ stepped _ _ (omega arith) refl ∙ c.loop-page.invariant.2,
     )
 
-pub returns : goal.returns
-returns c = each_end (commit_one 4096 _ _ _) c.loop-left.page _ (omega (arith, c.loop-left-test.false)) ∙ c.loop-left.invariant.5
+pub returns-clause-value : goal.returns-clause-value
+unfolding commit_range
+returns-clause-value c =
+    (_, each_end (commit_one 4096 _ _ _) c.loop-page.page _ (omega arith) ∙ c.loop-page.invariant.2)

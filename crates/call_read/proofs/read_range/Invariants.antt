@@ -1,18 +1,13 @@
-use mathlib.Core.Path.{◌≡◌}
-use Prim.Native.Nat.{◌≤◌}
-use lib.ListN.{length}
-use Rattle.page.specs.Each.{each}
-use Rattle.page.specs.Pages.{read_of, read_page}
-use Rattle.ranges.specs.Ranges.{read_range}
+use Rattle.std.specs.Prelude.{◌≡◌, ◌-◌, ◌≤◌}
+use Rattle.lookup.specs.Lent.{SameStore}
+use Rattle.page.specs.Lent.{read_in}
 use Rattle.node.specs.Node.{byte_limit}
+use Rattle.page.specs.Each.{each}
+use Rattle.page.specs.Pages.{read_page}
 use Rattle.call_read.proofs.read_range.Given as goal
 
-abbrev pub invariant-loop-left : goal.invariant-loop-left
-invariant-loop-left l =
-    (l.offset ≤ l.it.begin) × (l.it.end ≤ byte_limit) × (length l.pages ≡ length l.initial.pages) × (length l.used ≡ length l.initial.used) × (length l.memory ≡ length l.initial.memory)
-    × (length l.buf ≡ length l.initial.buf)
-    × (each (read_page 4096 l.nodes l.mappings l.node l.offset) l.left l.it (read_of l.pages l.used l.memory l.buf) ≡ read_range 4096 l.nodes l.mappings l.node l.offset
-    (read_of l.initial.pages l.initial.used l.initial.memory l.initial.buf))
-
-abbrev pub decreases-loop-left : goal.decreases-loop-left
-decreases-loop-left l = l.left
+abbrev pub invariant-loop : goal.invariant-loop
+invariant-loop l =
+    (l.offset ≤ l.it.begin) × (l.it.end ≤ byte_limit) × SameStore l.initial.store l.store
+    × (each (read_page 4096 l.tree.nodes.now l.tree.mappings.now l.node l.offset) (l.end - l.counter) l.it (read_in l.store l.buf)
+    ≡ each (read_page 4096 l.tree.nodes.now l.tree.mappings.now l.node l.offset) l.end l.initial.it (read_in l.initial.store l.initial.buf))

@@ -1,55 +1,25 @@
-use mathlib.Core.Path.{refl, ◌∙◌}
+use mathlib.Core.Path.{◌∙◌}
 use native.Mathlib.Omega.{arith}
+use Rattle.lookup.proofs.Laws.{same-same}
 use Rattle.page.specs.Pages.{write_page}
-use Rattle.ranges.specs.Ranges.{write_range}
 use Rattle.ranges.proofs.Laws.{each_end, each_stop, each_next}
-use borrow.Author.Rules.{rules}
 use Rattle.call_write.proofs.write_range.Goals as goal
 
-pub loop-left-init : goal.loop-left-init
-unfolding write_range
-loop-left-init c =
-    let the-pre = c.requires in
-    (omega arith, the-pre, refl, refl, refl, refl, rw c.count-left.ensures)
+pub returns-in_err-write_page-clause-value : goal.returns-in_err-write_page-clause-value
+returns-in_err-write_page-clause-value c =
+    rw (← c.block_count-end.ensures) (each_stop (write_page 4096 _ _ _ _ _) c.loop.it _ c.write_page.ensures.value _ (omega arith) c.in_err-write_page.was
+    c.from_residual.ensures.1 ∙ c.loop.invariant.4)
 
-pub write_page-part-requires : goal.write_page-part-requires
-write_page-part-requires c =
-    (c.loop-left.invariant.0, c.loop-left.invariant.1)
+pub loop-preserved : goal.loop-preserved
+loop-preserved c = (
+  c.write_page.ensures.fits.0,
+  c.write_page.ensures.fits.1,
+  same-same c.loop.invariant.2 c.write_page.ensures.store,
+  c.write_page.ensures.list ∙ c.loop.invariant.3,
+  each_next (write_page 4096 _ _ _ _ _) c.loop.it _ c.write_page.ensures.value _ _ (omega arith) c.in_ok-write_page.was
+      ∙ c.loop.invariant.4,
+)
 
-pub returns-in-Why : goal.returns-in-Why
-returns-in-Why c =
-    let the-write-page = c.write_page-part in
-    let the-loop-test = c.loop-left-test in
-    let the-loop = c.loop-left in record {
-      value = each_stop (write_page 4096 _ _ _ _ _) the-loop.it _ the-write-page.ensures.value the-loop.left (omega (arith, the-loop-test.true))
-          c.in-Why.is ∙ the-loop.invariant.6;
-      fits = the-write-page.ensures.fits.0;
-    }
-
-pub loop-left-smaller : goal.loop-left-smaller
-loop-left-smaller c =
-    let the-loop-test =
-    c.loop-left-test in
-    omega (arith, the-loop-test.true)
-
-pub loop-left-preserved : goal.loop-left-preserved
-loop-left-preserved c =
-    let the-write-page = c.write_page-part in
-    let the-loop-test =
-    c.loop-left-test in
-    let the-loop = c.loop-left in (
-      the-write-page.ensures.fits.0,
-      the-write-page.ensures.fits.1,
-      search rules,
-      search rules,
-      search rules,
-      search rules,
-      each_next (write_page 4096 _ _ _ _ _) the-loop.it _ the-write-page.ensures.value the-loop.left _ (omega (arith, the-loop-test.true))
-          c.in-Nothing.is ∙ the-loop.invariant.6,
-    )
-
-pub returns : goal.returns
-returns c = record {
-  value = each_end (write_page 4096 _ _ _ _ _) c.loop-left.it _ (omega (arith, c.loop-left-test.false)) ∙ c.loop-left.invariant.6;
-  fits = c.loop-left.invariant.0;
-}
+pub returns-clause-value : goal.returns-clause-value
+returns-clause-value c =
+    rw (← c.block_count-end.ensures) (each_end (write_page 4096 _ _ _ _ _) c.loop.it _ (omega arith) ∙ c.loop.invariant.4)

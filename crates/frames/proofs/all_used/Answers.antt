@@ -1,19 +1,12 @@
-use mathlib.Core.Path.{◌≡◌, refl}
-use native.Mathlib.Omega.{arith}
-use Rattle.logic.specs.Below.{all_below}
-use Rattle.logic.proofs.Laws.{all_next}
-use Rattle.frames.proofs.Flags.{mark_busy}
-use borrow.Author.Rules.{rules}
+use Rattle.std.proofs.Common.{rules, tests, true, not, ◌&&◌, ◌==◌}
+use Rattle.std.proofs.lemmas.Iterator.{YieldsList-from_slice}
+use Rattle.std.proofs.lemmas.Iterator.Consumers.{fold_from_yields_List}
+use mathlib.Core.Path.{◌∙◌}
+use Rattle.logic.proofs.Lists.{fold_all}
 use Rattle.frames.proofs.all_used.Goals as goal
-
-pub loop-k-init : goal.loop-k-init
-unfolding all_below
-loop-k-init c = (search rules, refl)
-
-pub loop-k-preserved : goal.loop-k-preserved
-loop-k-preserved c = (search rules, all_next _ _ c.loop-k.invariant.1 (mark_busy _ _ (search rules)))
 
 pub returns : goal.returns
 returns c =
-    let h : c.loop-k.k ≡ c.args.n = omega arith in
-    rw h at c.loop-k.invariant.1
+    let flags = c.args.flags.now in
+    fold_from_yields_List _ (λ a x. a && not (x == 0)) true _ c.fold.ensures.ran (YieldsList-from_slice flags (cc)) (λ a x b q k. search (rules, tests))
+    ∙ fold_all (λ x. not (x == 0)) true flags

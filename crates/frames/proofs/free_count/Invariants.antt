@@ -1,11 +1,6 @@
-use mathlib.Core.Path.{◌≡◌}
-use Prim.Native.Nat.{◌-◌, ◌≤◌}
-use Rattle.logic.specs.Below.{sum_below}
-use Rattle.frames.specs.Frames.{one_idle}
+use Rattle.std.proofs.Common.{◌≡◌, ◌≤◌, nat_eq, take}
+use Rattle.std.specs.List.{count_by}
 use Rattle.frames.proofs.free_count.Given as goal
 
-abbrev pub invariant-loop-i : goal.invariant-loop-i
-invariant-loop-i l = (l.i ≤ l.n) × (l.sum ≤ l.i) × (l.sum ≡ sum_below (one_idle l.used) l.i)
-
-abbrev pub decreases-loop-i : goal.decreases-loop-i
-decreases-loop-i l = l.n - l.i
+abbrev pub invariant-loop-flag : goal.invariant-loop-flag
+invariant-loop-flag l = (l.free ≤ l.flag-index) × (l.free ≡ count_by (λ flag. nat_eq flag 0) (take l.flag-index l.flags))

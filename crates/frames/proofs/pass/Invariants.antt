@@ -1,11 +1,8 @@
-use mathlib.Core.Path.{◌≡◌}
-use Prim.Native.Nat.{◌-◌, ◌≤◌}
-use Rattle.logic.specs.Below.{first_from}
-use Rattle.frames.specs.Frames.{idle_of}
+use Rattle.std.proofs.Common.{◌≢◌, ℕ, ◌-◌, ◌≤◌, ◌<◌, length, slice_index}
 use Rattle.frames.proofs.pass.Given as goal
 
 abbrev pub invariant-loop-a : goal.invariant-loop-a
-invariant-loop-a l = (l.a ≤ 1024) × (first_from (idle_of l.used) l.a (1024 - l.a) ≡ first_from (idle_of l.used) l.from (1024 - l.from))
+invariant-loop-a l = (l.from ≤ l.a) × (l.a ≤ length l.flags) × ((k : ℕ) → l.from ≤ k → k < l.a → slice_index l.flags k ≢ 0)
 
 abbrev pub decreases-loop-a : goal.decreases-loop-a
-decreases-loop-a l = l.n - l.a
+decreases-loop-a l = length l.flags - l.a

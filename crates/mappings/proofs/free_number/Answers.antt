@@ -1,18 +1,8 @@
-use mathlib.Core.Path.{refl, sym, ◌∙◌}
-use Rattle.logic.proofs.Laws.{first_found, first_next, first-none}
-use Rattle.mappings.specs.Mappings.{free_number}
-use borrow.Author.Rules.{rules}
+use Rattle.std.proofs.Common.{rules, tests}
+use Rattle.logic.proofs.Ranges.{found_in}
+use Rattle.mappings.specs.Mappings.{free_number, unused}
 use Rattle.mappings.proofs.free_number.Goals as goal
 
-pub loop-i-init : goal.loop-i-init
+pub returns-clause-value : goal.returns-clause-value
 unfolding free_number
-loop-i-init c = (search rules, refl)
-
-pub returns-then-is_unused : goal.returns-then-is_unused
-returns-then-is_unused c = sym (first_found _ _ 64 c.loop-i-test.true (sym c.is_unused.ensures ∙ c.if-is_unused.true)) ∙ c.loop-i.invariant.1
-
-pub loop-i-preserved : goal.loop-i-preserved
-loop-i-preserved c = (search rules, sym (first_next _ _ 64 c.loop-i-test.true (sym c.is_unused.ensures ∙ c.if-is_unused.false)) ∙ c.loop-i.invariant.1)
-
-pub returns : goal.returns
-returns c = sym (first-none _ _ 64 c.loop-i-test.false) ∙ c.loop-i.invariant.1
+returns-clause-value c = let found = found_in (unused c.args.mappings.now) _ _ _ _ c.find.ensures.ran (λ x b q k. search (rules, tests)) in cc

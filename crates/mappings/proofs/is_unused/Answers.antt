@@ -1,21 +1,8 @@
-use mathlib.Core.Path.{◌≡◌, refl}
-use native.Mathlib.Omega.{arith}
-use Rattle.logic.specs.Below.{all_below}
-use Rattle.logic.proofs.Laws.{all_next}
-use Rattle.mappings.specs.Mappings.{unused}
-use Rattle.mappings.proofs.Laws.{not_by}
-use borrow.Author.Rules.{rules}
+use Rattle.std.proofs.Common.{refl, rules, tests}
+use Rattle.logic.proofs.Ranges.{all_in}
+use Rattle.mappings.specs.Mappings.{unused, not_at}
 use Rattle.mappings.proofs.is_unused.Goals as goal
 
-pub loop-i-init : goal.loop-i-init
-unfolding all_below
-loop-i-init c = (search rules, refl)
-
-pub loop-i-preserved : goal.loop-i-preserved
-loop-i-preserved c = (search rules, all_next _ _ c.loop-i.invariant.1 (not_by _ _ _ c.number_at.ensures))
-
 pub returns : goal.returns
-unfolding unused
-returns c =
-    let h : c.loop-i.i ≡ 64 = omega arith in
-    rw h at c.loop-i.invariant.1
+unfolding unused not_at
+returns c = let all = all_in (not_at c.args.mappings.now c.args.number) _ _ _ _ refl c.all.ensures.ran (λ x b q k. search (rules, tests)) in cc

@@ -2,20 +2,19 @@ use mathlib.Core.Path.{◌≡◌, refl, ◌∙◌}
 use native.Mathlib.Omega.{arith}
 use Rattle.notices.specs.Notices.{tell_object}
 use Rattle.notices.proofs.Laws.{object_next, object_end}
-use borrow.Author.Rules.{rules}
 use Rattle.notices.proofs.tell_object.Goals as goal
 
-pub loop-i-init : goal.loop-i-init
+pub loop-place-init : goal.loop-place-init
 unfolding tell_object
-loop-i-init c = (search rules, refl, refl)
+loop-place-init c = (refl, refl)
 
-pub loop-i-preserved : goal.loop-i-preserved
-loop-i-preserved c =
-    let the-loop = c.loop-i in
-    (search rules, search rules, object_next _ _ _ _ _ _ _ the-loop.invariant.2 c.tell_place-count.ensures)
+pub loop-place-preserved : goal.loop-place-preserved
+loop-place-preserved c =
+    let kept = c.loop-place.invariant in
+    (c.tell_place.ensures.same ∙ kept.0, object_next _ _ _ _ _ _ _ kept.1 c.tell_place.ensures.value)
 
-pub returns : goal.returns
-returns c =
-    let h : c.loop-i.i ≡ c.live_places-places.result = omega arith in
-    let live = c.live_places-places.ensures in
-    (rw h at c.loop-i.invariant.2) ∙ object_end _ _ _ _ _ _ _ live.0 live.1
+pub returns-clause-value : goal.returns-clause-value
+returns-clause-value c =
+    let all : c.loop-place.place ≡ c.live_places-place-end.result = omega arith in
+    let live = c.live_places-place-end.ensures in
+    (rw all at c.loop-place.invariant.1) ∙ object_end _ _ _ _ _ _ _ live.0 live.1

@@ -1,18 +1,15 @@
-use mathlib.Core.Path.{◌≡◌, refl}
+use mathlib.Core.Path.{◌∙◌}
 use native.Mathlib.Omega.{arith}
-use Rattle.logic.specs.Below.{all_below}
-use Rattle.logic.proofs.Laws.{all_next}
 use borrow.Author.Rules.{rules}
+use borrow.Author.Tests.{tests}
+use Rattle.std.proofs.lemmas.Iterator.{YieldsList-from_range}
+use Rattle.std.proofs.lemmas.Iterator.Search.{all_from_yields_List}
+use Rattle.logic.proofs.Lists.{all_ranged}
+use Rattle.sound.specs.Maps.{place_ok}
 use Rattle.sound.proofs.maps.places_ok.Goals as goal
-
-pub loop-i-init : goal.loop-i-init
-unfolding all_below
-loop-i-init c = (search rules, refl)
-
-pub loop-i-preserved : goal.loop-i-preserved
-loop-i-preserved c = (search rules, all_next _ _ c.loop-i.invariant.1 c.place_ok-ok.ensures)
 
 pub returns : goal.returns
 returns c =
-    let h : c.loop-i.i ≡ c.args.places = omega arith in
-    rw h at c.loop-i.invariant.1
+    let P = place_ok c.args.nodes.now c.args.mappings.now in
+    let n = c.args.places in
+    all_from_yields_List P _ _ _ c.all.ensures.ran (YieldsList-from_range 0 n n (cc) (omega arith)) (λ x b q k. search (rules, tests)) ∙ all_ranged P n

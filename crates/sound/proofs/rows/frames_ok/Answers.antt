@@ -1,21 +1,21 @@
-use Rattle.sound.proofs.RowLaws.{frame_next}
-use mathlib.Core.Path.{◌≡◌, refl}
-use native.Mathlib.Omega.{arith}
-use lib.ListN.{length}
-use Rattle.logic.specs.Below.{all_below}
-use Rattle.sound.specs.Rows.{frames_ok}
+use mathlib.Core.Path.{◌∙◌}
+use mathlib.Core.Bool.{◌&&◌, true}
+use Prim.Native.Nat.{ℕ}
+use lib.Dec.{eqb, leb}
+use lib.ListN.{drop}
 use borrow.Author.Rules.{rules}
+use borrow.Author.Tests.{tests}
+use Rattle.std.proofs.lemmas.Iterator.{YieldsList-from_slice, YieldsList-from_zip}
+use Rattle.std.proofs.lemmas.Iterator.Consumers.{YieldsList-at, fold_from_yields_List}
+use Rattle.std.proofs.lemmas.List.{take_rest}
+use Rattle.sound.proofs.RowLaws.{frames_by}
 use Rattle.sound.proofs.rows.frames_ok.Goals as goal
 
-pub loop-i-init : goal.loop-i-init
-unfolding all_below
-loop-i-init c = (search rules, refl)
-
-pub loop-i-preserved : goal.loop-i-preserved
-loop-i-preserved c = (search rules, frame_next _ _ _ c.loop-i.invariant.1)
-
 pub returns : goal.returns
-unfolding frames_ok
 returns c =
-    let h : c.loop-i.i ≡ length c.args.used.now = omega arith in
-    rw h at c.loop-i.invariant.1
+    let used = c.args.used.now in
+    let marks = c.args.marks.now in
+    fold_from_yields_List _ (λ ok (p : ℕ × ℕ). ok && eqb p.0 p.1 && leb p.0 1) true c.fold.result c.fold.ensures.ran
+    (YieldsList-from_zip (YieldsList-at c.zip.ensures.first (YieldsList-from_slice used (cc))) (YieldsList-from_slice (drop 1 marks) (cc (take_rest marks 1))))
+    (λ a x b q k. search (rules, tests))
+    ∙ frames_by used marks c.requires

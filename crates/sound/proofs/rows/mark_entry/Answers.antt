@@ -1,11 +1,13 @@
 use Rattle.sound.proofs.RowLaws.{mark-none, mark_here, mark_past}
 use Rattle.sound.proofs.rows.mark_entry.Goals as goal
-
-pub returns-then-e-eq0 : goal.returns-then-e-eq0
-returns-then-e-eq0 c = mark-none _ _ c.if-e-eq0.true
+use Rattle.sound.proofs.rows.mark_entry.Goals.{else-e-ne0-via-then-e-ne0+else-low-marks, else-e-ne0-via-else-e-ne0}
 
 pub returns-then-low-marks : goal.returns-then-low-marks
-returns-then-low-marks c = mark_here _ _ c.if-e-eq0.false c.more.ensures
+returns-then-low-marks c = mark_here _ _ c.if-e-ne0.true c.more.ensures
 
-pub returns-else-low-marks : goal.returns-else-low-marks
-returns-else-low-marks c = mark_past _ _ c.if-e-eq0.false c.if-low-marks.false
+pub returns-else-e-ne0 : goal.returns-else-e-ne0
+returns-else-e-ne0 c =
+    elim c.else-e-ne0.branch [
+      | else-e-ne0-via-then-e-ne0+else-low-marks w ↦ mark_past _ _ w.if-e-ne0.true w.if-low-marks.false
+      | else-e-ne0-via-else-e-ne0 w ↦ mark-none _ _ w.if-e-ne0.false
+    ]

@@ -1,20 +1,28 @@
-use Rattle.sound.specs.Tree.{chains_end, steps_up}
-use Rattle.sound.proofs.TreeLaws.{ended}
-use borrow.Author.Rules.{rules}
+use mathlib.Core.Path.{◌≡◌, ap, ◌∙◌}
+use mathlib.Core.List.{List}
+use Prim.Native.Nat.{ℕ}
+use native.Mathlib.Omega.{arith}
+use lib.ListN.{length}
+use Rattle.logic.specs.Below.{all_below}
+use Rattle.sound.specs.Tree.{none_at, chains_end, steps_up}
+use Rattle.sound.proofs.TreeLaws.{ended, none_left, steps_next, steps_length}
 use Rattle.sound.proofs.tree.chains_end.Goals as goal
 
-pub returns-then-none_left : goal.returns-then-none_left
+pub loop-init : goal.loop-init
 unfolding steps_up
-returns-then-none_left c = ended _ 0 (search rules) (rw (← c.parents-up1.ensures) c.none_left.ensures) c.if-none_left.true
+loop-init c = c.parents-up.ensures
 
-pub returns-then-none_left-2 : goal.returns-then-none_left-2
-unfolding steps_up
-returns-then-none_left-2 c = ended _ 1 (search rules) (rw (← c.parents-up1.ensures, ← c.step_up-up2.ensures) c.none_left-2.ensures) c.if-none_left-2.true
+pub loop-preserved : goal.loop-preserved
+loop-preserved c = steps_next _ _ _ c.loop.invariant c.step_up-up.ensures
 
-pub returns-then-none_left-3 : goal.returns-then-none_left-3
-unfolding steps_up
-returns-then-none_left-3 c = ended _ 2 (search rules) (rw (← c.parents-up1.ensures, ← c.step_up-up2.ensures, ← c.step_up-up4.ensures) c.none_left-3.ensures) c.if-none_left-3.true
+pub returns-then-eq : goal.returns-then-eq
+returns-then-eq c =
+    let long : length c.loop.up ≡ 65 = ap length c.loop.invariant ∙ steps_length c.args.nodes.now c.loop.counter in
+    ended _ c.loop.counter (omega arith) (c.eq.ensures ∙ none_left c.loop.up long ∙ ap (λ (up : List ℕ). all_below (none_at up) 65) c.loop.invariant) c.if-eq.true
 
 pub returns : goal.returns
-unfolding chains_end steps_up
-returns c = rw (← c.parents-up1.ensures, ← c.step_up-up2.ensures, ← c.step_up-up4.ensures, ← c.step_up-up8.ensures, ← c.step_up-up16.ensures, ← c.step_up-up32.ensures, ← c.step_up.ensures, ← c.none_left-4.ensures)
+unfolding chains_end
+returns c =
+    let long : length c.loop.up ≡ 65 = ap length c.loop.invariant ∙ steps_length c.args.nodes.now c.loop.counter in
+    let e : c.loop.counter ≡ 6 = omega arith in
+    c.eq-2.ensures ∙ none_left c.loop.up long ∙ ap (λ (up : List ℕ). all_below (none_at up) 65) (rw e at c.loop.invariant)

@@ -1,20 +1,17 @@
-use mathlib.Core.Path.{◌≡◌, refl}
-use native.Mathlib.Omega.{arith}
-use Rattle.logic.specs.Below.{all_below}
-use Rattle.logic.proofs.Laws.{all_next}
-use Rattle.sound.specs.Tree.{nodes_ok}
+use mathlib.Core.Path.{◌∙◌}
+use mathlib.Core.Bool.{◌&&◌, true}
 use borrow.Author.Rules.{rules}
+use borrow.Author.Tests.{tests}
+use Rattle.std.specs.List.{range_with_len}
+use Rattle.std.proofs.lemmas.Iterator.{YieldsList-from_range}
+use Rattle.std.proofs.lemmas.Iterator.Consumers.{fold_from_yields_List}
+use Rattle.logic.proofs.Lists.{all_ranged, fold_all}
+use Rattle.sound.specs.Tree.{node_ok, nodes_ok}
 use Rattle.sound.proofs.tree.nodes_ok.Goals as goal
-
-pub loop-i-init : goal.loop-i-init
-unfolding all_below
-loop-i-init c = (search rules, refl)
-
-pub loop-i-preserved : goal.loop-i-preserved
-loop-i-preserved c = (search rules, all_next _ _ c.loop-i.invariant.1 c.node_ok-ok.ensures)
 
 pub returns : goal.returns
 unfolding nodes_ok
 returns c =
-    let h : c.loop-i.i ≡ 64 = omega arith in
-    rw h at c.loop-i.invariant.1
+    let P = node_ok c.args.whole.nodes.now c.args.next in
+    fold_from_yields_List _ (λ ok node. ok && P node) true c.fold.result c.fold.ensures.ran (YieldsList-from_range 0 64 64 (cc) (cc)) (λ a x b q k. search (rules, tests))
+    ∙ fold_all P true (range_with_len 0 64) ∙ all_ranged P 64

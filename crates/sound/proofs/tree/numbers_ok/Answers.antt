@@ -11,4 +11,4 @@ unfolding numbers_ok
 returns c =
     let n = c.args.n in
     let h : n.pin_count ≤ 4294967295 = omega arith in
-    rw (ne_eqb n.kind 0 c.requires, le-leb n.pin_count 4294967295 h, and-true (leb n.kind 3), and-true)
+    rw (c.from.ensures, c.from-2.ensures, c.from-3.ensures, ne_eqb n.kind 0 c.requires, le-leb n.pin_count 4294967295 h, and-true (leb n.kind 3), and-true)

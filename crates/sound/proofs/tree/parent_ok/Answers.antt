@@ -1,9 +1,10 @@
-use borrow.Author.Tests.{eq-eqb}
+use mathlib.Core.Path.{ap, ◌∙◌}
+use native.Mathlib.Omega.{arith}
+use Rattle.tables.specs.Tables.{node_of}
 use Rattle.sound.proofs.TreeLaws.{parent_by}
 use Rattle.sound.proofs.tree.parent_ok.Goals as goal
 
-pub returns-then-n-eq-NONE : goal.returns-then-n-eq-NONE
-returns-then-n-eq-NONE c = simp (eq-eqb _ _ c.if-n-eq-NONE.true)
-
-pub returns : goal.returns
-returns c = parent_by _ c.requires _ _ c.if-n-eq-NONE.false c.node_at-p.ensures
+pub returns-in-Some : goal.returns-in-Some
+returns-in-Some c =
+    let (l, e) = c.in-Some.ensures in
+    rw (c.from.ensures, c.from-in-Some.ensures, c.from-me.ensures) (parent_by _ c.args.whole.records _ _ (λ z. omega arith) (c.node_at-p.ensures ∙ ap (node_of c.args.whole.nodes.now) e))

@@ -1,19 +1,11 @@
-use mathlib.Core.Path.{◌≡◌, refl}
-use native.Mathlib.Omega.{arith}
-use lib.ListN.{length-set}
-use Rattle.sound.specs.Tree.{links_to}
-use Rattle.sound.proofs.TreeLaws.{links_next}
 use borrow.Author.Rules.{rules}
+use borrow.Author.Tests.{tests}
+use Rattle.sound.specs.Tree.{linked_of}
+use Rattle.logic.proofs.Lists.{made}
+use Rattle.sound.proofs.TreeLaws.{links_are}
 use Rattle.sound.proofs.tree.parents.Goals as goal
-
-pub loop-i-init : goal.loop-i-init
-unfolding links_to
-loop-i-init c = (search rules, search rules, refl)
-
-pub loop-i-preserved : goal.loop-i-preserved
-loop-i-preserved c = (search rules, simp length-set (search rules), links_next _ _ c.loop-i.invariant.2 c.word_at-link.ensures)
 
 pub returns : goal.returns
 returns c =
-    let h : c.loop-i.i ≡ 64 = omega arith in
-    rw h at c.loop-i.invariant.2
+    let nodes = c.args.nodes.now in
+    links_are nodes _ c.from_fn.ensures.items.long (made _ (λ l. linked_of nodes l 1) _ 65 (λ i y q l k. search (rules, tests)) _ c.from_fn.ensures.items)

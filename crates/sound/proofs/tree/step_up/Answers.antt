@@ -1,19 +1,11 @@
-use mathlib.Core.Path.{◌≡◌, refl}
-use native.Mathlib.Omega.{arith}
-use lib.ListN.{length-set}
-use Rattle.sound.specs.Tree.{step_to}
-use Rattle.sound.proofs.TreeLaws.{step-next}
 use borrow.Author.Rules.{rules}
+use borrow.Author.Tests.{tests}
+use lib.ListN.{get_or}
+use Rattle.logic.proofs.Lists.{made}
+use Rattle.sound.proofs.TreeLaws.{steps_are}
 use Rattle.sound.proofs.tree.step_up.Goals as goal
-
-pub loop-i-init : goal.loop-i-init
-unfolding step_to
-loop-i-init c = (search rules, search rules, refl)
-
-pub loop-i-preserved : goal.loop-i-preserved
-loop-i-preserved c = (search rules, simp length-set (search rules), step-next _ _ c.loop-i.invariant.2 c.at.ensures)
 
 pub returns : goal.returns
 returns c =
-    let h : c.loop-i.i ≡ 65 = omega arith in
-    rw h at c.loop-i.invariant.2
+    let up = c.args.up in
+    steps_are up _ c.from_fn.ensures.items.long (made _ (λ l. get_or up (get_or up l 0) 0) _ 65 (λ i y q l k. search (rules, tests)) _ c.from_fn.ensures.items)

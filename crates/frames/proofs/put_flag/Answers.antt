@@ -1,6 +1,0 @@
-use mathlib.Core.Path.{sym}
-use lib.Seq.{set_out}
-use Rattle.frames.proofs.put_flag.Goals as goal
-
-pub returns-else-f-used : goal.returns-else-f-used
-returns-else-f-used c = sym (set_out _ _ _ c.if-f-used.false)
