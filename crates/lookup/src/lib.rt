@@ -11,7 +11,7 @@ use entry::PageState;
 use outcome::Refusal;
 use tables::{Tree, View};
 
-// The page table, the frames in use and their bytes. The tree and the notices stand apart: most steps touch one or two of the three.
+// The page table, the frames in use and their bytes: what page lookup may change beside the notices.
 #[derive(Drop)]
 pub struct Store<'a> {
     pub pages: &'a mut [u32],
