@@ -1,6 +1,6 @@
 /*
  * Copy-on-write memory objects over lent tables and memory. Link libgoramul.a; it keeps nothing for
- * itself, allocates nothing and calls only memcpy, memmove and memset.
+ * itself, allocates nothing and calls only memcpy and memset.
  *
  * Every call is lent a pool first: six slices, each as a pointer and its length in elements.
  *

@@ -89,10 +89,20 @@ pub fn copy_frame(memory: &mut [u8], to: u32, from: u32)
     let a = to as usize * 4096;
     let b = from as usize * 4096;
     if a + 4096 <= memory.len() && b + 4096 <= memory.len() {
-        // std has no copy_within, and split_at_mut needs a case for each order of the frames.
+        // As fast as std's copy_within; split_at_mut needs a case for each order of the frames.
         for k in 0..4096 {
             memory[a + k] = memory[b + k];
         }
+    }
+}
+
+// All bytes of dst become those of src. Not by copy_from_slice: who links the library would have to bring memmove.
+fn put_over(dst: &mut [u8], src: &[u8])
+    requires { length dst.old ≡ length src.now }
+    ensures { dst.new ≡ src.now }
+{
+    for k in 0..src.len() {
+        dst[k] = src[k];
     }
 }
 
@@ -103,7 +113,7 @@ pub fn paste(dst: &mut [u8], a: usize, src: &[u8], b: usize, n: usize)
     ensures { dst.new ≡ pasted_at dst.old a src.now b n }
 {
     if a + n <= dst.len() && b + n <= src.len() {
-        dst[a..a + n].copy_from_slice(&src[b..b + n]);
+        put_over(&mut dst[a..a + n], &src[b..b + n]);
     }
 }
 

@@ -4,17 +4,20 @@
 
 ghost use Rattle.std.specs.Prelude.{◌≤◌, length};
 
-use arrayvec::ArrayVec;
+// No call has more numbers.
+const MOST: usize = 5;
 
-// No call has more than five numbers.
-#[derive(Drop)]
+// Its numbers stand first in the array: an ArrayVec would not be Copy, as the line is.
+#[derive(Clone, Copy)]
 pub struct Line {
     pub letter: u8,
-    numbers: ArrayVec<u64, 5>,
+    count: usize,
+    numbers: [u64; MOST],
+    ghost fits: { count ≤ 5 },
 }
 
 // Where a reader stands: before the letter, right after it, in a number, or past a fault.
-#[derive(Drop)]
+#[derive(Clone, Copy)]
 pub enum Reader {
     Start,
     Letter(Line),
@@ -33,13 +36,21 @@ impl Line {
     pub fn numbers(&self) -> &[u64]
         ensures { length result.now ≤ 5 }
     {
-        self.numbers.as_slice()
+        &self.numbers[..self.count]
     }
 
     // With one number more, where a call may have one.
-    fn with(mut self, number: u64) -> Option<Self> {
-        self.numbers.try_push(number).ok()?;
-        Some(self)
+    fn with(self, number: u64) -> Option<Self> {
+        if self.count == MOST {
+            return None;
+        }
+        let mut numbers = self.numbers;
+        numbers[self.count] = number;
+        Some(Line {
+            letter: self.letter,
+            count: self.count + 1,
+            numbers,
+        })
     }
 }
 
@@ -74,7 +85,8 @@ impl Reader {
             (Reader::Start, b' ') => None,
             (Reader::Start, letter) => Some(Reader::Letter(Line {
                 letter,
-                numbers: ArrayVec::new(),
+                count: 0,
+                numbers: [0; MOST],
             })),
             (Reader::Letter(line), b' ') => Some(Reader::Number(line, Digits::default())),
             (Reader::Number(line, digits), b' ') => {
